@@ -1,0 +1,46 @@
+-- The number is its high half and, behind it, its low half.
+use native.Mathlib.Omega.{arith}
+use borrow.Author.Needs.{needs}
+use denote.Ref.{now}
+use Rattle.octets.specs.NumberLaws.{num-downward}
+use Rattle.octets.proofs.high_first.read_u64.Statement.{statement}
+use Rattle.octets.proofs.high_first.read_u64.Tie as tie
+
+read-u32-requires : tie.Need-read-u32-requires
+read-u32-requires c κs = search needs
+
+cast-high : tie.Need-cast-high
+cast-high c = search needs
+
+add-read-u32 : tie.Need-add-read-u32
+add-read-u32 c = search needs
+
+read-u32-requires-2 : tie.Need-read-u32-requires-2
+read-u32-requires-2 c κs = search needs
+
+cast-low : tie.Need-cast-low
+cast-low c = search needs
+
+mul-result : tie.Need-mul-result
+mul-result c = search needs
+
+add-result : tie.Need-add-result
+add-result c = search needs
+
+returns : tie.Need-returns
+returns c =
+    let a = c .before .before .before .args in
+    omega (arith, num-downward (a .i) 4 4 (now (a .b)))
+
+pub read-u64-spec : {M : Type 1} → statement M
+read-u64-spec =
+    tie.close
+    (tie.spec
+    read-u32-requires
+    cast-high
+    add-read-u32
+    read-u32-requires-2
+    cast-low
+    mul-result
+    add-result
+    returns)

@@ -1,0 +1,4 @@
+pub mod Number
+pub mod NumberLaws
+pub mod Slide
+pub mod SlideLaws
