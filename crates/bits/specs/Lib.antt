@@ -1,0 +1,10 @@
+pub mod Bit
+pub mod BitLaws
+pub mod Order
+pub mod OrderLaws
+pub mod Trailing
+pub mod TrailingLaws
+pub mod Mask
+pub mod MaskLaws
+pub mod Slots
+pub mod SlotsLaws
