@@ -8,3 +8,4 @@ pub mod Mask
 pub mod MaskLaws
 pub mod Slots
 pub mod SlotsLaws
+pub mod Tests

@@ -1,5 +1,5 @@
 -- The laws of lists of slots: how often a slot occurs tells most, and a part of a list has no slot more often than the whole. Assumes nothing.
-use Prim.Native.Nat.{ℕ, zero, suc, _+_, _≤_, _<_}
+use Prim.Native.Nat.{ℕ, zero, suc, _+_, _≤_}
 use mathlib.Core.Path.{_≡_, refl, sym, ap, _∙_, subst}
 use mathlib.Core.Bool.{Bool, true, false, not, cond, _&&_, false≢true}
 use mathlib.Core.List.{
@@ -23,8 +23,9 @@ use mathlib.Core.Logic.{_⊎_, inl, inr}
 use native.Mathlib.Nat.{le-trans}
 use native.Mathlib.Omega.{arith}
 use lib.Dec.{eqb}
+use lib.ListN.{length}
 use borrow.Author.Tests.{eqb-true, eqb-false, eq-eqb, ne-eqb}
-use Rattle.bits.specs.Slots.{oneIf, occurs, keepIf, keep, strike, partOf}
+use Rattle.bits.specs.Slots.{occurs, keepIf, keep, strike, partOf}
 
 -- a goal by whether two numbers are equal
 pub if-eq : {C : Type 0} (i j : ℕ) → (i ≡ j → C) → ((i ≡ j → ⊥) → C) → C
@@ -121,6 +122,29 @@ without-absent i (x ∷ xs) h =
     if-eq x i
     (λ e. absurd (let k : occurs i (x ∷ xs) ≡ suc (occurs i xs) = rw (eq-eqb i x (sym e)) (omega arith) in omega arith))
     (λ n. rw (ne-eqb x i n) (ap (λ (l : List ℕ). x ∷ l) (without-absent i xs (sym (occurs-other i x xs (λ e. n (sym e))) ∙ h))))
+
+pub length-without : (i : ℕ) (xs : List ℕ) → length xs ≡ occurs i xs + length (without i xs)
+length-without i [] = omega arith
+length-without i (x ∷ xs) =
+    let ih : length xs ≡ occurs i xs + length (without i xs) = length-without i xs in
+    if-eq x i (λ e. rw (eq-eqb x i e, eq-eqb i x (sym e)) (omega arith)) (λ n. rw (ne-eqb x i n, ne-eqb i x (λ e. n (sym e))) (omega arith))
+
+-- a list of slots below n, none of them twice, has no more than n
+pub length-distinct : (n : ℕ) (xs : List ℕ) → ((i : ℕ) → occurs i xs ≤ 1) → ((i : ℕ) → n ≤ i → occurs i xs ≡ 0) → length xs ≤ n
+length-distinct zero [] once below = omega arith
+length-distinct zero (x ∷ xs) once below = absurd (omega (arith, below x (omega arith), occurs-same x xs))
+length-distinct (suc n) xs once below =
+    omega (arith, length-without n xs, once n, length-distinct n (without n xs) (λ i. rest-once i) rest-below)
+  where
+    rest-once : (i : ℕ) → occurs i (without n xs) ≤ 1
+    rest-once i =
+        if-eq i n (λ e. rw (e, occurs-without-same n xs) (omega arith)) (λ m. rw (occurs-without-other n i xs m) (once i))
+
+    rest-below : (i : ℕ) → n ≤ i → occurs i (without n xs) ≡ 0
+    rest-below i l = if-eq i n (λ e. rw e (occurs-without-same n xs)) (λ m. occurs-without-other n i xs m ∙ below i (further m l))
+      where
+        further : (i ≡ n → ⊥) → n ≤ i → suc n ≤ i
+        further m l = omega arith
 
 -- ---- a part of a list, in its order
 
