@@ -36,7 +36,7 @@ odd-next k p e = go (eqb (p + 1) (2 ^ k))
     go false = omega arith
 
 -- at an odd position there are slots to visit
-odd-filled : {b : ℕ} {s : State} → SoundTo b s → isEmpty (s .rows) ≡ false → nextPosition (s .order) (s .scan .position) % 2 ≡ 1
+pub odd-filled : {b : ℕ} {s : State} → SoundTo b s → isEmpty (s .rows) ≡ false → nextPosition (s .order) (s .scan .position) % 2 ≡ 1
     → isEmpty (termTaken s .scan .toVisit) ≡ false
 odd-filled {b} {s} S e o =
     let k : 1 ≤ s .order = order-least S e in
@@ -74,26 +74,26 @@ scanning-given {b} {s} S v e = other-given (s .scan .toVisit) 0 s _ (go (two-ter
 -- ---- how a slot is chosen
 
 -- n terms taken, the first slot to visit starts its visit; where there is none, one more term is taken
-pub data Starts (x : Chosen) : ℕ → State → Type 0 where
+pub data Scans (x : Chosen) : ℕ → State → Type 0 where
   at-once : {n : ℕ} {s : State} (i : ℕ) (rest : List ℕ) → s .scan .toVisit ≡ i ∷ rest
-      → x ≡ record { slot = i; started = 1; terms = n; state = visitStarted s i rest } → Starts x n s
-  one-more : {n : ℕ} {s : State} → s .scan .toVisit ≡ [] → Starts x (suc n) (termTaken s) → Starts x n s
+      → x ≡ record { slot = i; started = 1; terms = n; state = visitStarted s i rest } → Scans x n s
+  one-more : {n : ℕ} {s : State} → s .scan .toVisit ≡ [] → Scans x (suc n) (termTaken s) → Scans x n s
 
 pub data Chooses (x : Chosen) (s : State) : Type 0 where
   going-on : s .scan .visit ≡ some (x .slot) → x ≡ record { slot = x .slot; started = 0; terms = 0; state = s } → Chooses x s
-  starting : s .scan .visit ≡ none → Starts x 0 s → Chooses x s
+  starting : s .scan .visit ≡ none → Scans x 0 s → Chooses x s
 
-pub scanning-starts : (f n : ℕ) (s : State) (x : Chosen) → scanning f n s ≡ given x → Starts x n s
+pub scanning-starts : (f n : ℕ) (s : State) (x : Chosen) → scanning f n s ≡ given x → Scans x n s
 unfolding scanning
 scanning-starts zero n s x e = go (s .scan .toVisit) refl e
   where
-    go : (l : List ℕ) → s .scan .toVisit ≡ l → startFirst l n s (refused noRow) ≡ given x → Starts x n s
+    go : (l : List ℕ) → s .scan .toVisit ≡ l → startFirst l n s (refused noRow) ≡ given x → Scans x n s
     go [] q g = absurd (refused-given g)
     go (i ∷ rest) q g = at-once {n = n} {s = s} i rest q (cc)
 scanning-starts (suc f) n s x e = go (scanning-starts f (suc n) (termTaken s) x) (s .scan .toVisit) refl e
   where
-    go : (scanning f (suc n) (termTaken s) ≡ given x → Starts x (suc n) (termTaken s)) → (l : List ℕ) → s .scan .toVisit ≡ l
-        → startFirst l n s (scanning f (suc n) (termTaken s)) ≡ given x → Starts x n s
+    go : (scanning f (suc n) (termTaken s) ≡ given x → Scans x (suc n) (termTaken s)) → (l : List ℕ) → s .scan .toVisit ≡ l
+        → startFirst l n s (scanning f (suc n) (termTaken s)) ≡ given x → Scans x n s
     go later [] q g = one-more q (later g)
     go later (i ∷ rest) q g = at-once {n = n} {s = s} i rest q (cc)
 
@@ -164,7 +164,7 @@ at-once-choice {s} S n i rest v e =
 after-term : {s : State} {x : Chosen} → Choice (termTaken s) x → Choice s x
 after-term C = record { sound = C .sound; visit = C .visit; rows = C .rows; order = C .order; own = C .own; others = C .others }
 
-pub starts-choice : {n : ℕ} {s : State} {x : Chosen} → Sound s → s .scan .visit ≡ none → isEmpty (s .rows) ≡ false → Starts x n s → Choice s x
+pub starts-choice : {n : ℕ} {s : State} {x : Chosen} → Sound s → s .scan .visit ≡ none → isEmpty (s .rows) ≡ false → Scans x n s → Choice s x
 starts-choice {n} {s} {x} S v e (at-once i rest q g) = subst (Choice s) (sym g) (at-once-choice S n i rest v q)
 starts-choice {n} {s} {x} S v e (one-more q later) = after-term {s = s} (starts-choice (term-kept S v e) v e later)
 

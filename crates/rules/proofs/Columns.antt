@@ -58,6 +58,13 @@ orderOf-pos f r (x ∷ xs) h k =
     (λ e. let m : 1 ≤ order (f x) = order-pos (f x) (subst (λ (y : ℕ). 1 ≤ f y) e k) in omega arith)
     (λ n. let m : 1 ≤ orderOf f xs = orderOf-pos f r xs (rw (occurs-other r x xs n) at h) k in omega arith)
 
+pub orderOf-row : (f : ℕ → ℕ) (r : ℕ) (rows : List ℕ) → 1 ≤ occurs r rows → order (f r) ≤ orderOf f rows
+unfolding orderOf
+orderOf-row f r [] h = absurd (omega arith)
+orderOf-row f r (x ∷ xs) h =
+    if-eq r x (λ e. rw e (omega arith))
+    (λ n. let m : order (f r) ≤ orderOf f xs = orderOf-row f r xs (rw (occurs-other r x xs n) at h) in omega arith)
+
 pub orderOf-le : (f : ℕ → ℕ) (rows : List ℕ) (k : ℕ) → ((r : ℕ) → 1 ≤ occurs r rows → f r < 2 ^ k) → orderOf f rows ≤ k
 unfolding orderOf
 orderOf-le f [] k h = omega arith
