@@ -1,0 +1,68 @@
+-- The record goes in behind the last of the slot, and one more waits there.
+use Prim.Native.Nat.{_+_}
+use native.Mathlib.Omega.{arith}
+use borrow.Author.Needs.{needs}
+use denote.Ref.{now}
+use lib.ListN.{getD}
+use mathlib.Core.Path.{refl}
+use Rattle.memory.specs.RunEdits.{first-next, first-within}
+use Rattle.memory.specs.RecordEdits.{bytes-added}
+use Rattle.memory.proofs.records.add_record.Statement.{statement}
+use Rattle.memory.proofs.records.add_record.Tie as tie
+
+add-waiting : tie.Need-add-waiting
+add-waiting c = search needs
+
+slice-read-waiting : tie.Need-slice-read-waiting
+slice-read-waiting c = search needs
+
+add-first-of : tie.Need-add-first-of
+add-first-of c = search needs
+
+first-of-requires : tie.Need-first-of-requires
+first-of-requires c κs = search needs
+
+first-of-requires-2 : tie.Need-first-of-requires-2
+first-of-requires-2 c κs = search needs
+
+put-record-requires : tie.Need-put-record-requires
+put-record-requires c κs =
+    let a = c .before .before .before .before .before .before .before .args in
+    omega (arith, first-next (now (a .state)) (a .slot), first-within (now (a .state)) (a .slot) 64 (omega arith), c .before .before .before .first-of .ensures, c .before .first-of2 .ensures)
+
+add-state : tie.Need-add-state
+add-state c = search needs
+
+add-state-2 : tie.Need-add-state-2
+add-state-2 c = search needs
+
+slice-write-state : tie.Need-slice-write-state
+slice-write-state c = search needs
+
+same-length : tie.Need-same-length
+same-length c = search needs
+
+returns : tie.Need-returns
+returns c =
+    let a = c .before .before .before .before .before .before .before .before .before .before .args in
+    let p = c .before .before .put-record in
+    λ s F e.
+    rw (p .ensures)
+    (bytes-added (now (a .state)) (a .slot) (c .before .before .before .before .before .before .first-of .result) (c .before .before .before .before .first-of2 .result) (getD (now (a .state)) (128 + a .slot) 0) F e (omega arith)
+    (c .before .before .before .before .first-of2 .ensures) refl (a .size) (a .reference) (c .before .before .before .before .before .before .first-of .ensures) (omega arith) (omega arith) (omega arith))
+
+pub add-record-spec : {M : Type 1} → statement M
+add-record-spec =
+    tie.close
+    (tie.spec
+    add-waiting
+    slice-read-waiting
+    add-first-of
+    first-of-requires
+    first-of-requires-2
+    put-record-requires
+    add-state
+    add-state-2
+    slice-write-state
+    same-length
+    returns)

@@ -1,0 +1,78 @@
+-- Each turn slides the next line up, so that the lines passed are opened.
+use Prim.Native.Nat.{_≤_, _-_}
+use mathlib.Core.Path.{_≡_, refl, sym}
+use native.Mathlib.Omega.{arith}
+use borrow.Author.Needs.{needs}
+use denote.Ref.{now}
+use lib.ListN.{length}
+use Rattle.memory.specs.Fields.{edited, opening}
+use Rattle.memory.specs.RecordEdits.{edited-turn, edited-none}
+use Rattle.memory.proofs.records.open_lines.Statement.{statement}
+use Rattle.memory.proofs.records.open_lines.Tie as tie
+
+abbrev Inv-loop : tie.InvT-loop
+Inv-loop state₀ field width place total n j₀ state j = (j ≤ width) × (n ≡ total - place) × (length state ≡ length state₀) × (state ≡ edited (opening total place) field 1024 j state₀)
+
+abbrev μ-loop : tie.MeasureT-loop
+μ-loop state₀ field width place total n j₀ state j = width - j
+
+sub-n : tie.Need-sub-n Inv-loop μ-loop
+sub-n c = search needs
+
+loop-holds : tie.Need-loop-holds Inv-loop μ-loop
+loop-holds c =
+    let a = c .before .args in
+    (search needs, refl, refl, sym (edited-none (opening (a .total) (a .place)) (a .field) 1024 (now (a .state))))
+
+mul-line : tie.Need-mul-line Inv-loop μ-loop
+mul-line c = search needs
+
+add-line : tie.Need-add-line Inv-loop μ-loop
+add-line c = search needs
+
+add-slide-up : tie.Need-add-slide-up Inv-loop μ-loop
+add-slide-up c = search needs
+
+slide-up-requires : tie.Need-slide-up-requires Inv-loop μ-loop
+slide-up-requires c κs = search needs
+
+add-j : tie.Need-add-j Inv-loop μ-loop
+add-j c = search needs
+
+loop-less : tie.Need-loop-less Inv-loop μ-loop
+loop-less c = search needs
+
+loop-again : tie.Need-loop-again Inv-loop μ-loop
+loop-again c =
+    let a = c .before .before .before .before .before .before .before .args in
+    let l = c .before .before .before .before .before .loop in
+    let slid = c .before .before .slide-up .ensures in
+    (search needs, refl, search needs, edited-turn (opening (a .total) (a .place)) (a .field) 1024 (l .j) (now (a .state)) (l .state) _ (l .inv .3) slid)
+
+same-length : tie.Need-same-length Inv-loop μ-loop
+same-length c = search needs
+
+returns : tie.Need-returns Inv-loop μ-loop
+returns c =
+    let a = c .before .before .before .args in
+    let l = c .before .loop in
+    let e : l .j ≡ a .width = omega arith in
+    rw e at (l .inv .3)
+
+pub open-lines-spec : {M : Type 1} → statement M
+open-lines-spec =
+    tie.close
+    (tie.spec
+    Inv-loop
+    μ-loop
+    sub-n
+    loop-holds
+    mul-line
+    add-line
+    add-slide-up
+    slide-up-requires
+    add-j
+    loop-less
+    loop-again
+    same-length
+    returns)

@@ -1,0 +1,249 @@
+-- The check as named facts: each rule of the check on the numbers read, in the order of the layout. Assumes nothing.
+use Prim.Native.Nat.{ℕ, zero, suc, _+_, _-_, _*_, _^_, _≤_, _<_}
+use mathlib.Core.Path.{_≡_, refl}
+use mathlib.Core.Bool.{Bool, true, false, not, cond, _&&_}
+use mathlib.Core.List.{List, [], _∷_}
+use native.Mathlib.Omega.{arith}
+use lib.Dec.{leb, ltb, eqb}
+use lib.ListN.{length, getD}
+use borrow.Author.Tests.{not-true, eqb-true, eqb-false, eq-eqb, leb-true, le-leb, ltb-true, ltb-false, lt-ltb}
+use Rattle.bits.specs.Bit.{bit}
+use Rattle.bits.specs.BitLaws.{bit-lt, bit-none}
+use Rattle.bits.specs.Order.{order}
+use Rattle.bits.specs.Slots.{oneIf}
+use Rattle.octets.specs.Number.{upward, num, Bytes}
+use Rattle.octets.specs.NumberLaws.{num-lt}
+use Rattle.rules.proofs.TestLists.{Hold}
+use Rattle.memory.specs.Layout.{memoryLength}
+use Rattle.memory.specs.Reading.{waitingAt, firstAt}
+use Rattle.memory.specs.Check.{deficitAt, sizeAt, maskAt, positionAt, headAt, headsRule, sizesRule, clear, recordsRule, found, belowRule, countedRule, rowsRule, union, orderRule, columnMask, maskWithin, toVisitRule, calm, visitedRule, deficitsRule, scanRule}
+use Rattle.memory.specs.ColumnMasks.{within-bits, bits-within, column-mask-lt}
+use Rattle.memory.specs.ByteTests.{both-true, true-both}
+use Rattle.memory.specs.NumbersRead.{num-four, deficit-read}
+use Rattle.memory.specs.CheckTurns.{all-at, all-intro}
+use Rattle.memory.specs.HeadFacts.{HeadFacts, some-not, not-some}
+
+-- ---- a list of tests
+
+abbrev every : List Bool → Bool
+every [] = true
+every (x ∷ []) = x
+every (x ∷ y ∷ ys) = x && every (y ∷ ys)
+
+pub every-hold : (bs : List Bool) → every bs ≡ true → Hold bs
+every-hold [] e = tt
+every-hold (x ∷ []) e = (e, tt)
+every-hold (x ∷ y ∷ ys) e = let (h, r) = both-true x (every (y ∷ ys)) e in (h, every-hold (y ∷ ys) r)
+
+pub hold-every : (bs : List Bool) → Hold bs → every bs ≡ true
+hold-every [] h = refl
+hold-every (x ∷ []) h = h .0
+hold-every (x ∷ y ∷ ys) h = true-both (h .0) (hold-every (y ∷ ys) (h .1))
+
+-- ---- the facts
+
+abbrev pub referenceAt : List ℕ → ℕ → ℕ
+referenceAt b p = num (upward (2944 + p) 1024) 4 b
+
+pub record Visited (b : List ℕ) (v : ℕ) : Type 0 where
+  pub slot : v < 64
+  pub waits : 1 ≤ waitingAt b v
+  pub apart : bit v (maskAt b) ≡ 0
+  pub most : deficitAt b v ≤ 2046
+  pub head : sizeAt b (firstAt b v) ≤ deficitAt b v
+
+pub record Passed (b : List ℕ) : Type 0 where
+  pub size : length b ≡ memoryLength
+  pub head : (i : ℕ) → i < 64 → HeadFacts (headAt b i)
+  pub sizes : (p : ℕ) → p < firstAt b 64 → (1 ≤ sizeAt b p) × (sizeAt b p ≤ 1024)
+  pub sizes-end : (p : ℕ) → firstAt b 64 ≤ p → p < 1024 → sizeAt b p ≡ 0
+  pub references-end : (p : ℕ) → firstAt b 64 ≤ p → p < 1024 → referenceAt b p ≡ 0
+  pub few : getD b 832 0 ≤ 64
+  pub below : (k : ℕ) → k < getD b 832 0 → getD b k 0 < 64
+  pub rows-end : (k : ℕ) → getD b 832 0 ≤ k → k < 64 → getD b k 0 ≡ 0
+  pub counted : (i : ℕ) → i < 64 → found b i (getD b 832 0) ≡ oneIf (not (eqb (waitingAt b i) 0))
+  pub order-is : getD b 833 0 ≡ order (union b (getD b 832 0))
+  pub position : positionAt b < 2 ^ getD b 833 0
+  pub no-column : maskAt b ≡ 0 → getD b 836 0 ≡ 0
+  pub narrow : getD b 836 0 < 12
+  pub to-visit : (c : ℕ) → bit c (maskAt b) ≡ 1 → bit c (columnMask b (getD b 836 0) (getD b 832 0)) ≡ 1
+  pub visited : (v : ℕ) → getD b 845 0 ≡ suc v → Visited b v
+  pub resting : (i : ℕ) → i < 64 → (getD b 845 0 ≡ suc i → ⊥) → deficitAt b i ≤ 1023
+  pub spare : (k : ℕ) → k < 50 → getD b (846 + k) 0 ≡ 0
+
+-- ---- bytes and lines
+
+pub clear-at : (b : List ℕ) (from n : ℕ) → clear b from n ≡ true → (k : ℕ) → k < n → getD b (from + k) 0 ≡ 0
+unfolding clear
+clear-at b from n e k l = eqb-true _ _ (all-at n (λ k. eqb (getD b (from + k) 0) 0) e k l)
+
+pub at-clear : (b : List ℕ) (from n : ℕ) → ((k : ℕ) → k < n → getD b (from + k) 0 ≡ 0) → clear b from n ≡ true
+unfolding clear
+at-clear b from n h = all-intro n (λ k. eqb (getD b (from + k) 0) 0) (λ k l. eq-eqb _ _ (h k l))
+
+-- a line of 1,024 that is clear behind total, at a place p of it
+pub line-at : (b : List ℕ) (q total p : ℕ) → clear b (q + total) (1024 - total) ≡ true → total ≤ p → p < 1024 → getD b (q + p) 0 ≡ 0
+line-at b q total p e l h =
+    let at : q + total + (p - total) ≡ q + p = omega arith in
+    rw at at (clear-at b (q + total) (1024 - total) e (p - total) (omega arith))
+
+pub at-line : (b : List ℕ) (q total : ℕ) → ((p : ℕ) → total ≤ p → p < 1024 → getD b (q + p) 0 ≡ 0) → clear b (q + total) (1024 - total) ≡ true
+at-line b q total h =
+    at-clear b (q + total) (1024 - total)
+    (λ k l. let at : q + total + k ≡ q + (total + k) = omega arith in rw at (h (total + k) (omega arith) (omega arith)))
+
+pub reference-read : (b : List ℕ) (p : ℕ)
+    → referenceAt b p ≡ getD b (2944 + p) 0 + 256 * (getD b (3968 + p) 0 + 256 * (getD b (4992 + p) 0 + 256 * getD b (6016 + p) 0))
+reference-read b p = num-four (2944 + p) (3968 + p) (4992 + p) (6016 + p) 1024 b (omega arith) (omega arith) (omega arith)
+
+resting-at : (b : List ℕ) → Bytes b → (from n : ℕ) → calm b (640 + from) n ≡ true → (i : ℕ) → from ≤ i → i < from + n → deficitAt b i ≤ 1023
+unfolding calm
+resting-at b bytes from n e i l h =
+    let at : 640 + from + (i - from) ≡ 640 + i = omega arith in
+    let high : getD b (640 + from + (i - from)) 0 ≤ 3
+    = leb-true (getD b (640 + from + (i - from)) 0) 3 (all-at n (λ k. leb (getD b (640 + from + k) 0) 3) e (i - from) (omega arith)) in
+    let low : getD b (640 + i) 0 ≤ 3 = rw at at high in
+    omega (arith, deficit-read b i, bytes (576 + i))
+
+at-resting : (b : List ℕ) (from n : ℕ) → ((i : ℕ) → from ≤ i → i < from + n → deficitAt b i ≤ 1023) → calm b (640 + from) n ≡ true
+unfolding calm
+at-resting b from n h =
+    all-intro n (λ k. leb (getD b (640 + from + k) 0) 3)
+    (λ k l.
+    let at : 640 + from + k ≡ 640 + (from + k) = omega arith in
+    rw at (le-leb (getD b (640 + (from + k)) 0) 3 (omega (arith, h (from + k) (omega arith) (omega arith), deficit-read b (from + k)))))
+
+-- ---- from the check to the facts
+
+abbrev pub wholeTests : List ℕ → List Bool
+wholeTests b =
+    eqb (length b) memoryLength ∷ headsRule b ∷ recordsRule b (firstAt b 64) ∷ rowsRule b (getD b 832 0) ∷ scanRule b (getD b 832 0) ∷ []
+
+abbrev pub recordTests : List ℕ → ℕ → List Bool
+recordTests b total =
+    sizesRule b total
+    ∷ clear b (896 + total) (1024 - total)
+    ∷ clear b (1920 + total) (1024 - total)
+    ∷ clear b (2944 + total) (1024 - total)
+    ∷ clear b (3968 + total) (1024 - total)
+    ∷ clear b (4992 + total) (1024 - total)
+    ∷ clear b (6016 + total) (1024 - total)
+    ∷ []
+
+abbrev pub rowTests : List ℕ → ℕ → List Bool
+rowTests b n = leb n 64 ∷ belowRule b n ∷ clear b n (64 - n) ∷ countedRule b n ∷ []
+
+abbrev pub scanTests : List ℕ → ℕ → List Bool
+scanTests b n = orderRule b n ∷ toVisitRule b n ∷ deficitsRule b (getD b 845 0) ∷ clear b 846 50 ∷ []
+
+abbrev visitedTests : List ℕ → ℕ → List Bool
+visitedTests b v =
+    not (eqb (waitingAt b v) 0) ∷ not (eqb (bit v (maskAt b)) 1) ∷ leb (deficitAt b v) 2046 ∷ leb (sizeAt b (firstAt b v)) (deficitAt b v) ∷ []
+
+abbrev visitTests : List ℕ → ℕ → List Bool
+visitTests b v = ltb v 64 ∷ visitedRule b v ∷ calm b 640 v ∷ calm b (641 + v) (63 - v) ∷ []
+
+not-one : (n : ℕ) → n < 2 → (n ≡ 1 → ⊥) → n ≡ 0
+not-one n l d = omega arith
+
+visited-facts : (b : List ℕ) (v : ℕ) → v < 64 → visitedRule b v ≡ true → Visited b v
+unfolding visitedRule
+visited-facts b v l e =
+    let h = every-hold (visitedTests b v) e in
+    record {
+      slot = l;
+      waits = some-not (waitingAt b v) (h .0);
+      apart = not-one (bit v (maskAt b)) (bit-lt v (maskAt b)) (eqb-false _ _ (not-true _ (h .1 .0)));
+      most = leb-true _ _ (h .1 .1 .0);
+      head = leb-true _ _ (h .1 .1 .1 .0);
+    }
+
+facts-visited : (b : List ℕ) (v : ℕ) → Visited b v → visitedRule b v ≡ true
+unfolding visitedRule
+facts-visited b v held =
+    hold-every (visitedTests b v)
+    (not-some (waitingAt b v) (held .waits), (rw (held .apart) refl, (le-leb _ _ (held .most), (le-leb _ _ (held .head), tt))))
+
+-- what the rule of deficits says of the number x that stands for the visit
+pub deficits-visit : (b : List ℕ) (x : ℕ) → deficitsRule b x ≡ true → (v : ℕ) → x ≡ suc v → Visited b v
+unfolding deficitsRule
+deficits-visit b zero e v q = absurd (omega arith)
+deficits-visit b (suc u) e v q =
+    let h = every-hold (visitTests b u) e in
+    let same : u ≡ v = omega arith in
+    rw same at (visited-facts b u (ltb-true _ _ (h .0)) (h .1 .0))
+
+pub deficits-resting : (b : List ℕ) → Bytes b → (x : ℕ) → deficitsRule b x ≡ true → (i : ℕ) → i < 64 → (x ≡ suc i → ⊥) → deficitAt b i ≤ 1023
+unfolding deficitsRule
+deficits-resting b bytes zero e i l d = resting-at b bytes 0 64 e i (omega arith) (omega arith)
+deficits-resting b bytes (suc v) e i l d = go (ltb i v) refl
+  where
+    h : Hold (visitTests b v)
+    h = every-hold (visitTests b v) e
+
+    other : v ≤ i → (suc v ≡ suc i → ⊥) → suc v ≤ i
+    other a n = omega arith
+
+    go : (t : Bool) → ltb i v ≡ t → deficitAt b i ≤ 1023
+    go true q = resting-at b bytes 0 v (h .1 .1 .0) i (omega arith) (omega (arith, ltb-true i v q))
+    go false q =
+        let next : 641 + v ≡ 640 + suc v = omega arith in
+        let low : v < 64 = ltb-true v 64 (h .0) in
+        resting-at b bytes (suc v) (63 - v) (rw next at (h .1 .1 .1 .0)) i (other (ltb-false i v q) d) (omega arith)
+
+pub visit-deficits : (b : List ℕ) (x : ℕ) → ((v : ℕ) → x ≡ suc v → Visited b v) → ((i : ℕ) → i < 64 → (x ≡ suc i → ⊥) → deficitAt b i ≤ 1023)
+    → deficitsRule b x ≡ true
+unfolding deficitsRule
+visit-deficits b zero f g = at-resting b 0 64 (λ i l h. g i (omega arith) (λ e. omega arith))
+visit-deficits b (suc v) f g =
+    let held = f v refl in
+    let low : v < 64 = held .slot in
+    let next : 641 + v ≡ 640 + suc v = omega arith in
+    let behind : calm b (641 + v) (63 - v) ≡ true
+    = rw next (at-resting b (suc v) (63 - v) (λ i l h. g i (omega arith) (λ e. omega arith))) in
+    hold-every (visitTests b v)
+    (lt-ltb v 64 low, (facts-visited b v held, (at-resting b 0 v (λ i l h. g i (omega arith) (λ e. omega arith)), (behind, tt))))
+
+-- the rule of the slots to visit
+pub to-visit-mask : (b : List ℕ) (n : ℕ) → toVisitRule b n ≡ true → (c : ℕ) → bit c (maskAt b) ≡ 1 → bit c (columnMask b (getD b 836 0) n) ≡ 1
+unfolding toVisitRule
+to-visit-mask b n e c one = go (eqb (maskAt b) 0) refl e
+  where
+    column : ℕ
+    column = getD b 836 0
+
+    go : (t : Bool) → eqb (maskAt b) 0 ≡ t → cond t (eqb column 0) (ltb column 12 && maskWithin (maskAt b) (columnMask b column n)) ≡ true
+        → bit c (columnMask b column n) ≡ 1
+    go true z h = let none : bit c (maskAt b) ≡ 0 = rw (eqb-true (maskAt b) 0 z) (bit-none c) in absurd (omega arith)
+    go false z h =
+        within-bits (maskAt b) (columnMask b column n)
+        (eqb-true _ _ (both-true (ltb column 12) (maskWithin (maskAt b) (columnMask b column n)) h .1)) c one
+
+pub to-visit-none : (b : List ℕ) (n : ℕ) → toVisitRule b n ≡ true → maskAt b ≡ 0 → getD b 836 0 ≡ 0
+unfolding toVisitRule
+to-visit-none b n e z = eqb-true _ _ (rw (eq-eqb (maskAt b) 0 z) at e)
+
+pub to-visit-narrow : (b : List ℕ) (n : ℕ) → toVisitRule b n ≡ true → getD b 836 0 < 12
+unfolding toVisitRule
+to-visit-narrow b n e = go (eqb (maskAt b) 0) e
+  where
+    column : ℕ
+    column = getD b 836 0
+
+    go : (t : Bool) → cond t (eqb column 0) (ltb column 12 && maskWithin (maskAt b) (columnMask b column n)) ≡ true → column < 12
+    go true h = omega (arith, eqb-true column 0 h)
+    go false h = ltb-true column 12 (both-true (ltb column 12) (maskWithin (maskAt b) (columnMask b column n)) h .0)
+
+pub mask-to-visit : (b : List ℕ) → Bytes b → (n : ℕ) → ((k : ℕ) → k < n → getD b k 0 < 64) → (maskAt b ≡ 0 → getD b 836 0 ≡ 0) → getD b 836 0 < 12
+    → ((c : ℕ) → bit c (maskAt b) ≡ 1 → bit c (columnMask b (getD b 836 0) n) ≡ 1) → toVisitRule b n ≡ true
+unfolding toVisitRule maskAt
+mask-to-visit b bytes n below none narrow h = go (eqb (maskAt b) 0) refl
+  where
+    column : ℕ
+    column = getD b 836 0
+
+    go : (t : Bool) → eqb (maskAt b) 0 ≡ t → cond t (eqb column 0) (ltb column 12 && maskWithin (maskAt b) (columnMask b column n)) ≡ true
+    go true z = eq-eqb column 0 (none (eqb-true (maskAt b) 0 z))
+    go false z =
+        true-both (lt-ltb column 12 narrow)
+        (eq-eqb _ _ (bits-within (maskAt b) (columnMask b column n) (num-lt (upward 837 1) 8 b bytes) (column-mask-lt b column n below) h))

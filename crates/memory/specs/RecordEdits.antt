@@ -1,0 +1,234 @@
+-- A record put into the run or taken out of it: the lines of the records slide by one cell, and one slot's queue alone changes. Assumes nothing.
+use Prim.Native.Nat.{ℕ, suc, _+_, _-_, _*_, _^_, _≤_, _<_}
+use mathlib.Core.Path.{_≡_, refl, sym, ap, _∙_}
+use mathlib.Core.List.{List, [], _∷_, _++_, map}
+use native.Mathlib.Omega.{arith}
+use native.Mathlib.Nat.{add-zero}
+use lib.ListN.{length, set, length-append, length-map}
+use lib.Seq.{map-set-same}
+use Rattle.octets.specs.Number.{upward, put}
+use Rattle.rules.specs.Numbers.{room}
+use Rattle.rules.specs.State.{Record, State, blank, at, kindNumber}
+use Rattle.memory.specs.Fields.{Field, field, nth, lay, start, Fit, insertAt, removeAt, edited, opening, closing}
+use Rattle.memory.specs.Tables.{length-insertAt, map-insertAt, map-removeAt}
+use Rattle.memory.specs.Fits.{fit-at, fit-set, fitting-insert, fitting-remove}
+use Rattle.memory.specs.FieldEdits.{lay-open-put, lay-close-put}
+use Rattle.memory.specs.Layout.{runOf, fieldsOf, bytesOf}
+use Rattle.memory.specs.Reading.{waitingAt, firstAt}
+use Rattle.memory.specs.Edits.{withWaiting, recordAdded, queueNow}
+use Rattle.memory.specs.RunLaws.{noRecord, before, run-within, Each, each-nil, each-cons, each-append}
+use Rattle.memory.specs.Fitting.{RecordFits, Fits, run-few, fit-of}
+use Rattle.memory.specs.Lanes.{waiting-is}
+use Rattle.memory.specs.RoundTrip.{first-is}
+use Rattle.memory.specs.SlotEdits.{slot-write-one, tableOf, table-same, fits-channel}
+use Rattle.memory.specs.RunEdits.{before-within, total-is, run-insert, run-remove}
+
+-- ---- line after line
+
+-- a turn of a loop over the lines of a field
+pub edited-turn : (edit : ℕ → List ℕ → ℕ → List ℕ) (q n j : ℕ) (b c d : List ℕ) → c ≡ edited edit q n j b → d ≡ edit j c (q + n * j)
+    → d ≡ edited edit q n (j + 1) b
+unfolding edited
+edited-turn edit q n j b c d e f =
+    let next : j + 1 ≡ suc j = omega arith in
+    f ∙ rw (e, next)
+
+pub edited-none : (edit : ℕ → List ℕ → ℕ → List ℕ) (q n : ℕ) (b : List ℕ) → edited edit q n 0 b ≡ b
+unfolding edited
+edited-none edit q n b = refl
+
+-- ---- one field of the records, of any table
+
+module _ (fs : List Field) (k w : ℕ) (g : Record → ℕ) (run : List Record) (p : ℕ) (fit : Fit fs) (here : k < length fs)
+    (held : nth fs k ≡ field 1024 w (map g run)) where
+  numbers : length (nth fs k .numbers) ≡ length run
+  numbers = rw held (length-map run g)
+
+  pub record-put : (r : Record) → p ≤ length run → length run < 1024
+      → put (upward (start fs k + p) 1024) w (edited (opening (length run) p) (start fs k) 1024 w (lay fs)) (g r)
+      ≡ lay (set fs k (field 1024 w (map g (insertAt p r run))))
+  record-put r low free =
+      rw (held, ← map-insertAt g p r run) at (lay-open-put fs k (length run) p fit here numbers (g r) low (rw held free))
+
+  pub record-put-fits : (r : Record) → length run < 1024 → g r < 256 ^ w → Fit (set fs k (field 1024 w (map g (insertAt p r run))))
+  record-put-fits r free low =
+      fit-set fs k (field 1024 w (map g (insertAt p r run))) fit
+      (rw (held, ← map-insertAt g p r run) at
+      (fitting-insert (nth fs k) (fit-at fs k fit) p (g r) (rw (numbers, held) free) (rw held low)))
+
+  pub record-drop : p < length run
+      → put (upward (start fs k + (length run - 1)) 1024) w (edited (closing (length run) p) (start fs k) 1024 w (lay fs)) 0
+      ≡ lay (set fs k (field 1024 w (map g (removeAt p run))))
+  record-drop low =
+      rw (held, ← map-removeAt g p run) at (lay-close-put fs k (length run) p fit here numbers low)
+
+  pub record-drop-fits : p < length run → Fit (set fs k (field 1024 w (map g (removeAt p run))))
+  record-drop-fits low =
+      fit-set fs k (field 1024 w (map g (removeAt p run))) fit
+      (rw (held, ← map-removeAt g p run) at (fitting-remove (nth fs k) (fit-at fs k fit) p (rw numbers low)))
+
+-- ---- another queue in slot i
+
+pub fits-queue : {s : State} (i : ℕ) (rs : List Record) → Fits s → i < 64 → length rs ≤ room → Each RecordFits rs → Fits (queueNow s i rs)
+fits-queue {s} i rs F h few each =
+    fits-channel i (withWaiting rs (at (s .channels) i)) F h
+    (record {
+      ticket-fits = F .slot i .ticket-fits;
+      weight-fits = F .slot i .weight-fits;
+      deficit-fits = F .slot i .deficit-fits;
+      serial-fits = F .slot i .serial-fits;
+      few = few;
+      records = each;
+    })
+
+pub fits-added : {s : State} (i : ℕ) (r : Record) → Fits s → i < 64 → RecordFits r → length (at (s .channels) i .waiting) < room → Fits (recordAdded s i r)
+fits-added {s} i r F h fits free =
+    fits-queue i (at (s .channels) i .waiting ++ r ∷ []) F h (omega (arith, length-append (at (s .channels) i .waiting) (r ∷ [])))
+    (each-append RecordFits (F .slot i .records) (each-cons fits each-nil))
+
+each-rest : (P : Record → Type 0) {r : Record} {rs : List Record} → Each P (r ∷ rs) → Each P rs
+each-rest P (each-cons p h) = h
+
+pub fits-taken : {s : State} (i : ℕ) (h : Record) (rest : List Record) → Fits s → i < 64 → at (s .channels) i .waiting ≡ h ∷ rest → Fits (queueNow s i rest)
+fits-taken i h rest F l e =
+    fits-queue i rest F l (omega (arith, F .slot i .few, ap length e)) (each-rest RecordFits (rw e at (F .slot i .records)))
+
+-- the memory once its table holds another run, and slot i's number waiting is that of its new queue
+queue-table : (s : State) (i : ℕ) (rs run : List Record) → run ≡ runOf (set (s .channels) i (withWaiting rs (at (s .channels) i)))
+    → lay (tableOf s (map (λ c. kindNumber (c .kind)) (s .channels))
+    (map (λ c. length (c .waiting)) (set (s .channels) i (withWaiting rs (at (s .channels) i))))
+    (map (λ c. c .ticket) (s .channels)) (map (λ c. c .weight) (s .channels)) (map (λ c. c .deficit) (s .channels)) (map (λ c. c .serial) (s .channels)) run)
+    ≡ bytesOf (queueNow s i rs)
+unfolding bytesOf
+queue-table s i rs run e =
+    let c = withWaiting rs (at (s .channels) i) in
+    ap lay
+    (table-same s (sym (map-set-same (λ x. kindNumber (x .kind)) (s .channels) i c blank refl)) refl
+    (sym (map-set-same (λ x. x .ticket) (s .channels) i c blank refl)) (sym (map-set-same (λ x. x .weight) (s .channels) i c blank refl))
+    (sym (map-set-same (λ x. x .deficit) (s .channels) i c blank refl)) (sym (map-set-same (λ x. x .serial) (s .channels) i c blank refl)) e)
+
+-- ---- a record put in at place p of a run of m
+
+unfoldable pub recordPut : List ℕ → ℕ → ℕ → ℕ → ℕ → List ℕ
+recordPut b m p n r =
+    put (upward (2944 + p) 1024) 4 (edited (opening m p) 2944 1024 4 (put (upward (896 + p) 1024) 2 (edited (opening m p) 896 1024 2 b) n)) r
+
+module _ {s : State} (F : Fits s) (i : ℕ) (h : i < 64) (r : Record) (fits : RecordFits r) (free : length (at (s .channels) i .waiting) < room) where
+  within : i < length (s .channels)
+  within = omega (arith, F .size)
+
+  -- one record more has room
+  run-free : length (runOf (s .channels)) < 1024
+  run-free =
+      let one : length (insertAt (before (s .channels) (suc i)) r (runOf (s .channels))) ≡ suc (length (runOf (s .channels)))
+      = length-insertAt (before (s .channels) (suc i)) r (runOf (s .channels)) in
+      omega (arith, run-few (fits-added i r F h fits free), ap length (run-insert (s .channels) i r within))
+
+  pub record-added : set (recordPut (bytesOf s) (length (runOf (s .channels))) (before (s .channels) (suc i)) (r .size) (r .reference)) (128 + i)
+      (length (at (s .channels) i .waiting) + 1)
+      ≡ bytesOf (recordAdded s i r)
+  unfolding recordPut bytesOf
+  record-added =
+      let run = runOf (s .channels) in
+      let p = before (s .channels) (suc i) in
+      let m = length (runOf (s .channels)) in
+      let rs = at (s .channels) i .waiting ++ r ∷ [] in
+      let c = withWaiting rs (at (s .channels) i) in
+      let more = length (at (s .channels) i .waiting) + 1 in
+      let long : length rs ≡ more = length-append (at (s .channels) i .waiting) (r ∷ []) in
+      let low : p ≤ m = before-within (s .channels) (suc i) in
+      let new-run = insertAt p r run in
+      let fs0 = fieldsOf s in
+      let fs1 = set fs0 14 (field 1024 2 (map (λ x. x .size) new-run)) in
+      let fs2 = set fs1 15 (field 1024 4 (map (λ x. x .reference) new-run)) in
+      let fit0 = fit-of F in
+      let fit1 = record-put-fits fs0 14 2 (λ x. x .size) run p fit0 (omega arith) refl r run-free (fits .size-fits) in
+      let fit2 = record-put-fits fs1 15 4 (λ x. x .reference) run p fit1 (omega arith) refl r run-free (fits .reference-fits) in
+      let reference-into : List ℕ → List ℕ = λ b. put (upward (2944 + p) 1024) 4 (edited (opening m p) 2944 1024 4 b) (r .reference) in
+      ap (λ (b : List ℕ). set (reference-into b) (128 + i) more) (record-put fs0 14 2 (λ x. x .size) run p fit0 (omega arith) refl r low run-free)
+      ∙ ap (λ (b : List ℕ). set b (128 + i) more) (record-put fs1 15 4 (λ x. x .reference) run p fit1 (omega arith) refl r low run-free)
+      ∙ ap (λ (n : ℕ). set (lay fs2) (128 + i) n) (sym long)
+      ∙ slot-write-one fs2 2 1 (λ x. length (x .waiting)) (s .channels) i c fit2 (omega arith) refl within refl (omega arith)
+      ∙ queue-table s i rs new-run (run-insert (s .channels) i r within)
+
+-- ---- the record at place p of a run of m taken out
+
+unfoldable pub recordDropped : List ℕ → ℕ → ℕ → List ℕ
+recordDropped b m p =
+    put (upward (2944 + (m - 1)) 1024) 4
+    (edited (closing m p) 2944 1024 4 (put (upward (896 + (m - 1)) 1024) 2 (edited (closing m p) 896 1024 2 b) 0))
+    0
+
+pub record-taken : {s : State} (i : ℕ) (h : Record) (rest : List Record) → Fits s → i < 64 → at (s .channels) i .waiting ≡ h ∷ rest
+    → set (recordDropped (bytesOf s) (length (runOf (s .channels))) (before (s .channels) i)) (128 + i) (length (at (s .channels) i .waiting) - 1)
+    ≡ bytesOf (queueNow s i rest)
+unfolding recordDropped bytesOf
+record-taken {s} i h rest F l e =
+    let run = runOf (s .channels) in
+    let p = before (s .channels) i in
+    let m = length (runOf (s .channels)) in
+    let c = withWaiting rest (at (s .channels) i) in
+    let less = length (at (s .channels) i .waiting) - 1 in
+    let within : i < length (s .channels) = omega (arith, F .size) in
+    let some : length (at (s .channels) i .waiting) ≡ suc (length rest) = ap length e in
+    let long : less ≡ length rest = omega arith in
+    let here : before (s .channels) i + 0 ≡ before (s .channels) i = add-zero (before (s .channels) i) in
+    let low : p < m = rw here at (run-within (s .channels) i 0 (omega arith)) in
+    let new-run = removeAt p run in
+    let fs0 = fieldsOf s in
+    let fs1 = set fs0 14 (field 1024 2 (map (λ x. x .size) new-run)) in
+    let fs2 = set fs1 15 (field 1024 4 (map (λ x. x .reference) new-run)) in
+    let fit0 = fit-of F in
+    let fit1 = record-drop-fits fs0 14 2 (λ x. x .size) run p fit0 (omega arith) refl low in
+    let fit2 = record-drop-fits fs1 15 4 (λ x. x .reference) run p fit1 (omega arith) refl low in
+    let reference-into : List ℕ → List ℕ = λ b. put (upward (2944 + (m - 1)) 1024) 4 (edited (closing m p) 2944 1024 4 b) 0 in
+    ap (λ (b : List ℕ). set (reference-into b) (128 + i) less) (record-drop fs0 14 2 (λ x. x .size) run p fit0 (omega arith) refl low)
+    ∙ ap (λ (b : List ℕ). set b (128 + i) less) (record-drop fs1 15 4 (λ x. x .reference) run p fit1 (omega arith) refl low)
+    ∙ ap (λ (n : ℕ). set (lay fs2) (128 + i) n) long
+    ∙ slot-write-one fs2 2 1 (λ x. length (x .waiting)) (s .channels) i c fit2 (omega arith) refl within refl (omega (arith, F .slot i .few))
+    ∙ queue-table s i rest new-run (run-remove (s .channels) i h rest e)
+
+-- ---- the same, told by the bytes that the code reads
+
+-- what a slot with room gives the code that adds to it, and a slot with a record the code that takes one
+pub room-left : {s : State} (i : ℕ) → Fits s → i < 64 → length (at (s .channels) i .waiting) < room
+    → (firstAt (bytesOf s) 64 < 1024) × (waitingAt (bytesOf s) i < 16)
+room-left {s} i F h free =
+    let none : RecordFits noRecord = record { size-fits = omega arith; reference-fits = omega arith } in
+    (omega (arith, total-is F, run-free F i h noRecord none free), omega (arith, waiting-is F i h))
+
+pub some-left : {s : State} (i : ℕ) (h : Record) (rest : List Record) → Fits s → i < 64 → at (s .channels) i .waiting ≡ h ∷ rest
+    → (firstAt (bytesOf s) 64 ≤ 1024) × (0 < waitingAt (bytesOf s) i)
+some-left i h rest F l e = (omega (arith, total-is F, run-few F), omega (arith, waiting-is F i l, ap length e))
+
+module _ {s : State} (b : List ℕ) (i place total waiting : ℕ) (F : Fits s) (memory : b ≡ bytesOf s) (h : i < 64)
+    (all : total ≡ firstAt b 64) (here : waiting ≡ waitingAt b i) where
+  pub bytes-added : (n r : ℕ) → place ≡ firstAt b (i + 1) → waiting < 16 → n < 256 ^ 2 → r < 256 ^ 4
+      → set (recordPut b total place n r) (128 + i) (waiting + 1) ≡ bytesOf (recordAdded s i (record { size = n; reference = r }))
+  bytes-added n r at-place free size reference =
+      let next : i + 1 ≡ suc i = omega arith in
+      let p : place ≡ before (s .channels) (suc i) = at-place ∙ rw (memory, next) (first-is F (suc i) h) in
+      let m : total ≡ length (runOf (s .channels)) = all ∙ rw memory (total-is F) in
+      let w : waiting ≡ length (at (s .channels) i .waiting) = here ∙ rw memory (waiting-is F i h) in
+      rw (p, m, w, memory)
+      (record-added F i h (record { size = n; reference = r }) (record { size-fits = size; reference-fits = reference }) (omega arith))
+
+  pub bytes-taken : (r : Record) (rest : List Record) → place ≡ firstAt b i → at (s .channels) i .waiting ≡ r ∷ rest
+      → set (recordDropped b total place) (128 + i) (waiting - 1) ≡ bytesOf (queueNow s i rest)
+  bytes-taken r rest at-place e =
+      let p : place ≡ before (s .channels) i = at-place ∙ rw memory (first-is F i (omega arith)) in
+      let m : total ≡ length (runOf (s .channels)) = all ∙ rw memory (total-is F) in
+      let w : waiting ≡ length (at (s .channels) i .waiting) = here ∙ rw memory (waiting-is F i h) in
+      rw (p, m, w, memory) (record-taken i r rest F h e)
+
+-- ---- the same, as the code does it, step by step
+
+pub put-steps : {b1 b2 b3 b4 : List ℕ} (b : List ℕ) (m p n r : ℕ) → b1 ≡ edited (opening m p) 896 1024 2 b → b2 ≡ put (upward (896 + p) 1024) 2 b1 n
+    → b3 ≡ edited (opening m p) 2944 1024 4 b2 → b4 ≡ put (upward (2944 + p) 1024) 4 b3 r → b4 ≡ recordPut b m p n r
+unfolding recordPut
+put-steps b m p n r e1 e2 e3 e4 = rw (e4, e3, e2, e1)
+
+pub drop-steps : {b1 b2 b3 b4 : List ℕ} (b : List ℕ) (m p : ℕ) → b1 ≡ edited (closing m p) 896 1024 2 b → b2 ≡ put (upward (896 + (m - 1)) 1024) 2 b1 0
+    → b3 ≡ edited (closing m p) 2944 1024 4 b2 → b4 ≡ put (upward (2944 + (m - 1)) 1024) 4 b3 0 → b4 ≡ recordDropped b m p
+unfolding recordDropped
+drop-steps b m p e1 e2 e3 e4 = rw (e4, e3, e2, e1)
