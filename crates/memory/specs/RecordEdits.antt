@@ -8,19 +8,19 @@ use lib.ListN.{length, set, length-append, length-map}
 use lib.Seq.{map-set-same}
 use Rattle.octets.specs.Number.{upward, put}
 use Rattle.rules.specs.Numbers.{room}
-use Rattle.rules.specs.State.{Record, State, blank, at, kindNumber}
+use Rattle.rules.specs.State.{Record, Channel, State, blank, at, kindNumber}
 use Rattle.memory.specs.Fields.{Field, field, nth, lay, start, Fit, insertAt, removeAt, edited, opening, closing}
-use Rattle.memory.specs.Tables.{length-insertAt, map-insertAt, map-removeAt}
+use Rattle.memory.specs.Tables.{length-insertAt, map-insertAt, map-removeAt, map-set}
 use Rattle.memory.specs.Fits.{fit-at, fit-set, fitting-insert, fitting-remove}
-use Rattle.memory.specs.FieldEdits.{lay-open-put, lay-close-put}
-use Rattle.memory.specs.Layout.{runOf, fieldsOf, bytesOf}
+use Rattle.memory.specs.FieldEdits.{lay-open-put, lay-close-put, lay-write-one}
+use Rattle.memory.specs.Layout.{runOf, bytesOf}
 use Rattle.memory.specs.Reading.{waitingAt, firstAt}
 use Rattle.memory.specs.Edits.{withWaiting, recordAdded, queueNow}
 use Rattle.memory.specs.RunLaws.{noRecord, before, run-within, Each, each-nil, each-cons, each-append}
 use Rattle.memory.specs.Fitting.{RecordFits, Fits, run-few, fit-of}
 use Rattle.memory.specs.Lanes.{waiting-is}
 use Rattle.memory.specs.RoundTrip.{first-is}
-use Rattle.memory.specs.SlotEdits.{slot-write-one, tableOf, table-same, fits-channel}
+use Rattle.memory.specs.SlotEdits.{tableOf, table-same, fits-channel}
 use Rattle.memory.specs.RunEdits.{before-within, total-is, run-insert, run-remove}
 
 -- ---- line after line
@@ -93,65 +93,25 @@ pub fits-taken : {s : State} (i : ℕ) (h : Record) (rest : List Record) → Fit
 fits-taken i h rest F l e =
     fits-queue i rest F l (omega (arith, F .slot i .few, ap length e)) (each-rest RecordFits (rw e at (F .slot i .records)))
 
--- the memory once its table holds another run, and slot i's number waiting is that of its new queue
+-- the table once the run is another one, and slot i's number waiting that of its new queue
 queue-table : (s : State) (i : ℕ) (rs run : List Record) → run ≡ runOf (set (s .channels) i (withWaiting rs (at (s .channels) i)))
-    → lay (tableOf s (map (λ c. kindNumber (c .kind)) (s .channels))
-    (map (λ c. length (c .waiting)) (set (s .channels) i (withWaiting rs (at (s .channels) i))))
+    → lay (tableOf s (map (λ c. kindNumber (c .kind)) (s .channels)) (set (map (λ c. length (c .waiting)) (s .channels)) i (length rs))
     (map (λ c. c .ticket) (s .channels)) (map (λ c. c .weight) (s .channels)) (map (λ c. c .deficit) (s .channels)) (map (λ c. c .serial) (s .channels)) run)
     ≡ bytesOf (queueNow s i rs)
 unfolding bytesOf
 queue-table s i rs run e =
     let c = withWaiting rs (at (s .channels) i) in
+    let kept : (f : Channel → ℕ) → f c ≡ f (at (s .channels) i) → map f (s .channels) ≡ map f (set (s .channels) i c)
+    = λ f q. sym (map-set-same f (s .channels) i c blank q) in
     ap lay
-    (table-same s (sym (map-set-same (λ x. kindNumber (x .kind)) (s .channels) i c blank refl)) refl
-    (sym (map-set-same (λ x. x .ticket) (s .channels) i c blank refl)) (sym (map-set-same (λ x. x .weight) (s .channels) i c blank refl))
-    (sym (map-set-same (λ x. x .deficit) (s .channels) i c blank refl)) (sym (map-set-same (λ x. x .serial) (s .channels) i c blank refl)) e)
+    (table-same s (kept (λ x. kindNumber (x .kind)) refl) (sym (map-set (λ x. length (x .waiting)) i c (s .channels))) (kept (λ x. x .ticket) refl)
+    (kept (λ x. x .weight) refl) (kept (λ x. x .deficit) refl) (kept (λ x. x .serial) refl) e)
 
--- ---- a record put in at place p of a run of m
+-- ---- a record put in at place p of a run of m, and the record there taken out
 
 unfoldable pub recordPut : List ℕ → ℕ → ℕ → ℕ → ℕ → List ℕ
 recordPut b m p n r =
     put (upward (2944 + p) 1024) 4 (edited (opening m p) 2944 1024 4 (put (upward (896 + p) 1024) 2 (edited (opening m p) 896 1024 2 b) n)) r
-
-module _ {s : State} (F : Fits s) (i : ℕ) (h : i < 64) (r : Record) (fits : RecordFits r) (free : length (at (s .channels) i .waiting) < room) where
-  within : i < length (s .channels)
-  within = omega (arith, F .size)
-
-  -- one record more has room
-  run-free : length (runOf (s .channels)) < 1024
-  run-free =
-      let one : length (insertAt (before (s .channels) (suc i)) r (runOf (s .channels))) ≡ suc (length (runOf (s .channels)))
-      = length-insertAt (before (s .channels) (suc i)) r (runOf (s .channels)) in
-      omega (arith, run-few (fits-added i r F h fits free), ap length (run-insert (s .channels) i r within))
-
-  pub record-added : set (recordPut (bytesOf s) (length (runOf (s .channels))) (before (s .channels) (suc i)) (r .size) (r .reference)) (128 + i)
-      (length (at (s .channels) i .waiting) + 1)
-      ≡ bytesOf (recordAdded s i r)
-  unfolding recordPut bytesOf
-  record-added =
-      let run = runOf (s .channels) in
-      let p = before (s .channels) (suc i) in
-      let m = length (runOf (s .channels)) in
-      let rs = at (s .channels) i .waiting ++ r ∷ [] in
-      let c = withWaiting rs (at (s .channels) i) in
-      let more = length (at (s .channels) i .waiting) + 1 in
-      let long : length rs ≡ more = length-append (at (s .channels) i .waiting) (r ∷ []) in
-      let low : p ≤ m = before-within (s .channels) (suc i) in
-      let new-run = insertAt p r run in
-      let fs0 = fieldsOf s in
-      let fs1 = set fs0 14 (field 1024 2 (map (λ x. x .size) new-run)) in
-      let fs2 = set fs1 15 (field 1024 4 (map (λ x. x .reference) new-run)) in
-      let fit0 = fit-of F in
-      let fit1 = record-put-fits fs0 14 2 (λ x. x .size) run p fit0 (omega arith) refl r run-free (fits .size-fits) in
-      let fit2 = record-put-fits fs1 15 4 (λ x. x .reference) run p fit1 (omega arith) refl r run-free (fits .reference-fits) in
-      let reference-into : List ℕ → List ℕ = λ b. put (upward (2944 + p) 1024) 4 (edited (opening m p) 2944 1024 4 b) (r .reference) in
-      ap (λ (b : List ℕ). set (reference-into b) (128 + i) more) (record-put fs0 14 2 (λ x. x .size) run p fit0 (omega arith) refl r low run-free)
-      ∙ ap (λ (b : List ℕ). set b (128 + i) more) (record-put fs1 15 4 (λ x. x .reference) run p fit1 (omega arith) refl r low run-free)
-      ∙ ap (λ (n : ℕ). set (lay fs2) (128 + i) n) (sym long)
-      ∙ slot-write-one fs2 2 1 (λ x. length (x .waiting)) (s .channels) i c fit2 (omega arith) refl within refl (omega arith)
-      ∙ queue-table s i rs new-run (run-insert (s .channels) i r within)
-
--- ---- the record at place p of a run of m taken out
 
 unfoldable pub recordDropped : List ℕ → ℕ → ℕ → List ℕ
 recordDropped b m p =
@@ -159,43 +119,94 @@ recordDropped b m p =
     (edited (closing m p) 2944 1024 4 (put (upward (896 + (m - 1)) 1024) 2 (edited (closing m p) 896 1024 2 b) 0))
     0
 
-pub record-taken : {s : State} (i : ℕ) (h : Record) (rest : List Record) → Fits s → i < 64 → at (s .channels) i .waiting ≡ h ∷ rest
-    → set (recordDropped (bytesOf s) (length (runOf (s .channels))) (before (s .channels) i)) (128 + i) (length (at (s .channels) i .waiting) - 1)
-    ≡ bytesOf (queueNow s i rest)
-unfolding recordDropped bytesOf
-record-taken {s} i h rest F l e =
-    let run = runOf (s .channels) in
-    let p = before (s .channels) i in
-    let m = length (runOf (s .channels)) in
-    let c = withWaiting rest (at (s .channels) i) in
-    let less = length (at (s .channels) i .waiting) - 1 in
-    let within : i < length (s .channels) = omega (arith, F .size) in
-    let some : length (at (s .channels) i .waiting) ≡ suc (length rest) = ap length e in
-    let long : less ≡ length rest = omega arith in
-    let here : before (s .channels) i + 0 ≡ before (s .channels) i = add-zero (before (s .channels) i) in
-    let low : p < m = rw here at (run-within (s .channels) i 0 (omega arith)) in
-    let new-run = removeAt p run in
-    let fs0 = fieldsOf s in
-    let fs1 = set fs0 14 (field 1024 2 (map (λ x. x .size) new-run)) in
-    let fs2 = set fs1 15 (field 1024 4 (map (λ x. x .reference) new-run)) in
-    let fit0 = fit-of F in
-    let fit1 = record-drop-fits fs0 14 2 (λ x. x .size) run p fit0 (omega arith) refl low in
-    let fit2 = record-drop-fits fs1 15 4 (λ x. x .reference) run p fit1 (omega arith) refl low in
-    let reference-into : List ℕ → List ℕ = λ b. put (upward (2944 + (m - 1)) 1024) 4 (edited (closing m p) 2944 1024 4 b) 0 in
-    ap (λ (b : List ℕ). set (reference-into b) (128 + i) less) (record-drop fs0 14 2 (λ x. x .size) run p fit0 (omega arith) refl low)
-    ∙ ap (λ (b : List ℕ). set b (128 + i) less) (record-drop fs1 15 4 (λ x. x .reference) run p fit1 (omega arith) refl low)
-    ∙ ap (λ (n : ℕ). set (lay fs2) (128 + i) n) long
-    ∙ slot-write-one fs2 2 1 (λ x. length (x .waiting)) (s .channels) i c fit2 (omega arith) refl within refl (omega (arith, F .slot i .few))
-    ∙ queue-table s i rest new-run (run-remove (s .channels) i h rest e)
+-- in any table of that form; then v records wait in slot i
+module _ (s : State) (kinds waiting tickets weights deficits serials : List ℕ) (run : List Record) (i p : ℕ)
+    (fit0 : Fit (tableOf s kinds waiting tickets weights deficits serials run)) (within : i < length waiting) where
+  table-put : (r : Record) (v : ℕ) → RecordFits r → v < 256 → p ≤ length run → length run < 1024
+      → set (recordPut (lay (tableOf s kinds waiting tickets weights deficits serials run)) (length run) p (r .size) (r .reference)) (128 + i) v
+      ≡ lay (tableOf s kinds (set waiting i v) tickets weights deficits serials (insertAt p r run))
+  unfolding recordPut
+  table-put r v fits few low free =
+      let m = length run in
+      let fs0 = tableOf s kinds waiting tickets weights deficits serials run in
+      let fs1 = set fs0 14 (field 1024 2 (map (λ x. x .size) (insertAt p r run))) in
+      let fs2 = tableOf s kinds waiting tickets weights deficits serials (insertAt p r run) in
+      let fit1 : Fit fs1 = record-put-fits fs0 14 2 (λ x. x .size) run p fit0 (omega arith) refl r free (fits .size-fits) in
+      let fit2 : Fit fs2 = record-put-fits fs1 15 4 (λ x. x .reference) run p fit1 (omega arith) refl r free (fits .reference-fits) in
+      let reference-into : List ℕ → List ℕ = λ b. put (upward (2944 + p) 1024) 4 (edited (opening m p) 2944 1024 4 b) (r .reference) in
+      ap (λ (b : List ℕ). set (reference-into b) (128 + i) v) (record-put fs0 14 2 (λ x. x .size) run p fit0 (omega arith) refl r low free)
+      ∙ ap (λ (b : List ℕ). set b (128 + i) v) (record-put fs1 15 4 (λ x. x .reference) run p fit1 (omega arith) refl r low free)
+      ∙ lay-write-one fs2 2 i v fit2 (omega arith) refl few within
+
+  table-drop : (v : ℕ) → v < 256 → p < length run
+      → set (recordDropped (lay (tableOf s kinds waiting tickets weights deficits serials run)) (length run) p) (128 + i) v
+      ≡ lay (tableOf s kinds (set waiting i v) tickets weights deficits serials (removeAt p run))
+  unfolding recordDropped
+  table-drop v few low =
+      let m = length run in
+      let fs0 = tableOf s kinds waiting tickets weights deficits serials run in
+      let fs1 = set fs0 14 (field 1024 2 (map (λ x. x .size) (removeAt p run))) in
+      let fs2 = tableOf s kinds waiting tickets weights deficits serials (removeAt p run) in
+      let fit1 : Fit fs1 = record-drop-fits fs0 14 2 (λ x. x .size) run p fit0 (omega arith) refl low in
+      let fit2 : Fit fs2 = record-drop-fits fs1 15 4 (λ x. x .reference) run p fit1 (omega arith) refl low in
+      let reference-into : List ℕ → List ℕ = λ b. put (upward (2944 + (m - 1)) 1024) 4 (edited (closing m p) 2944 1024 4 b) 0 in
+      ap (λ (b : List ℕ). set (reference-into b) (128 + i) v) (record-drop fs0 14 2 (λ x. x .size) run p fit0 (omega arith) refl low)
+      ∙ ap (λ (b : List ℕ). set b (128 + i) v) (record-drop fs1 15 4 (λ x. x .reference) run p fit1 (omega arith) refl low)
+      ∙ lay-write-one fs2 2 i v fit2 (omega arith) refl few within
+
+module _ {s : State} (F : Fits s) (i : ℕ) (h : i < 64) where
+  slot-within : i < length (s .channels)
+  slot-within = omega (arith, F .size)
+
+  number-within : i < length (map (λ (c : Channel). length (c .waiting)) (s .channels))
+  number-within = rw (length-map (s .channels) (λ (c : Channel). length (c .waiting))) slot-within
+
+  -- one record more has room
+  run-free : length (at (s .channels) i .waiting) < room → length (runOf (s .channels)) < 1024
+  run-free free =
+      let none : RecordFits noRecord = record { size-fits = omega arith; reference-fits = omega arith } in
+      let one : length (insertAt (before (s .channels) (suc i)) noRecord (runOf (s .channels))) ≡ suc (length (runOf (s .channels)))
+      = length-insertAt (before (s .channels) (suc i)) noRecord (runOf (s .channels)) in
+      omega (arith, run-few (fits-added i noRecord F h none free), ap length (run-insert (s .channels) i noRecord slot-within))
+
+  -- the record comes last in slot i's queue
+  pub record-added : (r : Record) → RecordFits r → length (at (s .channels) i .waiting) < room
+      → set (recordPut (bytesOf s) (length (runOf (s .channels))) (before (s .channels) (suc i)) (r .size) (r .reference)) (128 + i)
+      (length (at (s .channels) i .waiting) + 1)
+      ≡ bytesOf (recordAdded s i r)
+  unfolding bytesOf
+  record-added r fits free =
+      let cs = s .channels in
+      let rs = at (s .channels) i .waiting ++ r ∷ [] in
+      let long : length rs ≡ length (at (s .channels) i .waiting) + 1 = length-append (at (s .channels) i .waiting) (r ∷ []) in
+      rw (← long)
+      (table-put s (map (λ x. kindNumber (x .kind)) cs) (map (λ x. length (x .waiting)) cs) (map (λ x. x .ticket) cs) (map (λ x. x .weight) cs)
+      (map (λ x. x .deficit) cs) (map (λ x. x .serial) cs) (runOf cs) i (before cs (suc i)) (fit-of F) number-within r (length rs) fits (omega arith)
+      (before-within cs (suc i)) (run-free free)
+      ∙ queue-table s i rs (insertAt (before cs (suc i)) r (runOf cs)) (run-insert cs i r slot-within))
+
+  -- the oldest record of slot i leaves
+  pub record-taken : (r : Record) (rest : List Record) → at (s .channels) i .waiting ≡ r ∷ rest
+      → set (recordDropped (bytesOf s) (length (runOf (s .channels))) (before (s .channels) i)) (128 + i) (length (at (s .channels) i .waiting) - 1)
+      ≡ bytesOf (queueNow s i rest)
+  unfolding bytesOf
+  record-taken r rest e =
+      let cs = s .channels in
+      let some : length (at (s .channels) i .waiting) ≡ suc (length rest) = ap length e in
+      let long : length (at (s .channels) i .waiting) - 1 ≡ length rest = omega arith in
+      let here : before (s .channels) i + 0 ≡ before (s .channels) i = add-zero (before (s .channels) i) in
+      let low : before (s .channels) i < length (runOf (s .channels)) = rw here at (run-within (s .channels) i 0 (omega arith)) in
+      rw long
+      (table-drop s (map (λ x. kindNumber (x .kind)) cs) (map (λ x. length (x .waiting)) cs) (map (λ x. x .ticket) cs) (map (λ x. x .weight) cs)
+      (map (λ x. x .deficit) cs) (map (λ x. x .serial) cs) (runOf cs) i (before cs i) (fit-of F) number-within (length rest) (omega (arith, F .slot i .few)) low
+      ∙ queue-table s i rest (removeAt (before cs i) (runOf cs)) (run-remove cs i r rest e))
 
 -- ---- the same, told by the bytes that the code reads
 
 -- what a slot with room gives the code that adds to it, and a slot with a record the code that takes one
 pub room-left : {s : State} (i : ℕ) → Fits s → i < 64 → length (at (s .channels) i .waiting) < room
     → (firstAt (bytesOf s) 64 < 1024) × (waitingAt (bytesOf s) i < 16)
-room-left {s} i F h free =
-    let none : RecordFits noRecord = record { size-fits = omega arith; reference-fits = omega arith } in
-    (omega (arith, total-is F, run-free F i h noRecord none free), omega (arith, waiting-is F i h))
+room-left i F h free = (omega (arith, total-is F, run-free F i h free), omega (arith, waiting-is F i h))
 
 pub some-left : {s : State} (i : ℕ) (h : Record) (rest : List Record) → Fits s → i < 64 → at (s .channels) i .waiting ≡ h ∷ rest
     → (firstAt (bytesOf s) 64 ≤ 1024) × (0 < waitingAt (bytesOf s) i)
@@ -219,7 +230,7 @@ module _ {s : State} (b : List ℕ) (i place total waiting : ℕ) (F : Fits s) (
       let p : place ≡ before (s .channels) i = at-place ∙ rw memory (first-is F i (omega arith)) in
       let m : total ≡ length (runOf (s .channels)) = all ∙ rw memory (total-is F) in
       let w : waiting ≡ length (at (s .channels) i .waiting) = here ∙ rw memory (waiting-is F i h) in
-      rw (p, m, w, memory) (record-taken i r rest F h e)
+      rw (p, m, w, memory) (record-taken F i h r rest e)
 
 -- ---- the same, as the code does it, step by step
 

@@ -1,37 +1,15 @@
--- One slot's channel changed, in a state and in any table: a field of the slots has one number written. Assumes nothing.
-use Prim.Native.Nat.{ℕ, zero, suc, _+_, _^_, _<_}
-use mathlib.Core.Path.{_≡_, refl, sym, ap, _∙_}
+-- One slot's channel changed: what a state's table then holds, and that the state still fits. Assumes nothing.
+use Prim.Native.Nat.{ℕ, zero, suc, _<_}
+use mathlib.Core.Path.{_≡_, refl, ap, _∙_}
 use mathlib.Core.List.{List, [], _∷_, _++_, map}
 use native.Mathlib.Omega.{arith}
-use lib.ListN.{length, set, length-map, length-set}
+use lib.ListN.{length, set, length-set}
 use Rattle.bits.specs.Mask.{maskOf}
-use Rattle.octets.specs.Number.{upward, put}
-use Rattle.octets.specs.NumberLaws.{put-one}
 use Rattle.rules.specs.State.{Record, Channel, State, at, withChannel}
 use Rattle.rules.proofs.Channels.{at-set}
-use Rattle.memory.specs.Fields.{Field, field, nth, lay, start, Fit}
-use Rattle.memory.specs.Tables.{map-set}
-use Rattle.memory.specs.Fits.{fit-at, fit-set, fitting-set}
-use Rattle.memory.specs.FieldEdits.{lay-write}
+use Rattle.memory.specs.Fields.{Field, field}
 use Rattle.memory.specs.Layout.{runOf, visitNumber, one}
 use Rattle.memory.specs.Fitting.{SlotFits, Fits}
-
--- ---- slot i's channel is c: one field of the slots, of any table
-
-module _ (fs : List Field) (k w : ℕ) (f : Channel → ℕ) (cs : List Channel) (i : ℕ) (c : Channel) (fit : Fit fs) (here : k < length fs)
-    (held : nth fs k ≡ field 64 w (map f cs)) (within : i < length cs) where
-  pub slot-write : put (upward (start fs k + i) 64) w (lay fs) (f c) ≡ lay (set fs k (field 64 w (map f (set cs i c))))
-  slot-write =
-      rw (held, ← map-set f i c cs) at (lay-write fs k i (f c) fit here (rw (held, length-map cs f) within))
-
-  pub slot-write-one : w ≡ 1 → f c < 256 → set (lay fs) (start fs k + i) (f c) ≡ lay (set fs k (field 64 w (map f (set cs i c))))
-  slot-write-one one low =
-      rw one (sym (put-one (upward (start fs k + i) 64) (start fs k + i) (lay fs) (f c) (omega arith) low) ∙ (rw one at slot-write))
-
-  pub slot-written-fits : f c < 256 ^ w → Fit (set fs k (field 64 w (map f (set cs i c))))
-  slot-written-fits low =
-      fit-set fs k (field 64 w (map f (set cs i c))) fit
-      (rw (held, ← map-set f i c cs) at (fitting-set (nth fs k) (fit-at fs k fit) i (f c) (rw held low)))
 
 -- the run stays where the slot's records do
 pub run-same : (cs : List Channel) (i : ℕ) (c : Channel) → c .waiting ≡ at cs i .waiting → runOf (set cs i c) ≡ runOf cs

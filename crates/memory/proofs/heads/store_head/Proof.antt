@@ -1,4 +1,5 @@
 -- Each number is written in its field, one after the other.
+use Prim.Native.Nat.{_^_, _<_}
 use native.Mathlib.Omega.{arith}
 use borrow.Author.Needs.{needs}
 use lib.ListN.{length-set}
@@ -37,15 +38,29 @@ slice-write-state : tie.Need-slice-write-state
 slice-write-state c = search needs
 
 same-length : tie.Need-same-length
-same-length c = simp length-set (omega (arith, c .before .before .write-u163 .kept .0, c .before .before .before .before .before .before .write-u162 .kept .0, c .before .before .before .before .before .before .before .before .before .before .write-u16 .kept .0, c .before .before .before .before .before .before .before .before .before .before .before .before .before .before .write-u32 .kept .0))
+same-length c =
+    let w4 = c .before .before in
+    let w3 = w4 .before .before .before .before in
+    let w2 = w3 .before .before .before .before in
+    let w1 = w2 .before .before .before .before in
+    simp length-set (omega (arith, w1 .write-u32 .kept .0, w2 .write-u16 .kept .0, w3 .write-u162 .kept .0, w4 .write-u163 .kept .0))
 
 returns : tie.Need-returns
 returns c =
     let a = c .before .before .before .before .before .before .before .before .before .before .before .before .before .before .before .before .before .args in
     let h = a .head in
+    let ticket : h .ticket < 256 ^ 4 = omega arith in
+    let weight : h .weight < 256 ^ 2 = omega arith in
+    let deficit : h .deficit < 256 ^ 2 = omega arith in
+    let serial : h .serial < 256 ^ 2 = omega arith in
+    let w4 = c .before .before in
+    let w3 = w4 .before .before .before .before in
+    let w2 = w3 .before .before .before .before in
+    let w1 = w2 .before .before .before .before in
+    let pre = w1 .before .before .before .pre in
     λ s F e.
-    bytes-head (a .slot) (h .kind) (h .ticket) (h .weight) (h .deficit) (h .serial) F e (omega arith) (omega arith) (omega arith) (omega arith) (omega arith)
-    (omega arith) (c .before .before .before .before .before .before .before .before .before .before .before .before .before .before .write-u32 .ensures) (c .before .before .before .before .before .before .before .before .before .before .write-u16 .ensures) (c .before .before .before .before .before .before .write-u162 .ensures) (c .before .before .write-u163 .ensures)
+    bytes-head (a .slot) (h .kind) (h .ticket) (h .weight) (h .deficit) (h .serial) F e (pre .1) (pre .2) ticket weight deficit serial
+    (w1 .write-u32 .ensures) (w2 .write-u16 .ensures) (w3 .write-u162 .ensures) (w4 .write-u163 .ensures)
 
 pub store-head-spec : {M : Type 1} → statement M
 store-head-spec =

@@ -27,8 +27,11 @@ first-of-requires-2 c κs = search needs
 
 put-record-requires : tie.Need-put-record-requires
 put-record-requires c κs =
+    let all = c .before .first-of2 in
+    let first = c .before .before .before .first-of in
     let a = c .before .before .before .before .before .before .before .args in
-    omega (arith, first-next (now (a .state)) (a .slot), first-within (now (a .state)) (a .slot) 64 (omega arith), c .before .before .before .first-of .ensures, c .before .first-of2 .ensures)
+    let b = now (a .state) in
+    omega (arith, first-next b (a .slot), first-within b (a .slot) 64 (omega arith), first .ensures, all .ensures)
 
 add-state : tie.Need-add-state
 add-state c = search needs
@@ -44,12 +47,14 @@ same-length c = search needs
 
 returns : tie.Need-returns
 returns c =
-    let a = c .before .before .before .before .before .before .before .before .before .before .args in
-    let p = c .before .before .put-record in
+    let edit = c .before .before in
+    let all = edit .before .before .first-of2 in
+    let first = edit .before .before .before .before .first-of in
+    let a = edit .before .before .before .before .before .before .before .before .args in
+    let b = now (a .state) in
     λ s F e.
-    rw (p .ensures)
-    (bytes-added (now (a .state)) (a .slot) (c .before .before .before .before .before .before .first-of .result) (c .before .before .before .before .first-of2 .result) (getD (now (a .state)) (128 + a .slot) 0) F e (omega arith)
-    (c .before .before .before .before .first-of2 .ensures) refl (a .size) (a .reference) (c .before .before .before .before .before .before .first-of .ensures) (omega arith) (omega arith) (omega arith))
+    rw (edit .put-record .ensures)
+    (bytes-added b (a .slot) (first .result) (all .result) (getD b (128 + a .slot) 0) F e (omega arith) (all .ensures) refl (a .size) (a .reference) (first .ensures) (omega arith) (omega arith) (omega arith))
 
 pub add-record-spec : {M : Type 1} → statement M
 add-record-spec =

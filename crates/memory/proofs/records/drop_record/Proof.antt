@@ -31,8 +31,12 @@ same-length c = search needs
 
 returns : tie.Need-returns
 returns c =
-    let a = c .before .before .before .before .before .before .before .before .before .before .before .before .before .before .before .before .before .args in
-    drop-steps (now (a .state)) (a .total) (a .place) (c .before .before .before .before .before .before .before .before .before .before .before .before .before .before .close-lines .ensures) (c .before .before .before .before .before .before .before .before .before .before .write-u16 .ensures) (c .before .before .before .before .before .before .close-lines2 .ensures) (c .before .before .write-u32 .ensures)
+    let w4 = c .before .before in
+    let w3 = w4 .before .before .before .before in
+    let w2 = w3 .before .before .before .before in
+    let w1 = w2 .before .before .before .before in
+    let a = w1 .before .before .before .args in
+    drop-steps (now (a .state)) (a .total) (a .place) (w1 .close-lines .ensures) (w2 .write-u16 .ensures) (w3 .close-lines2 .ensures) (w4 .write-u32 .ensures)
 
 pub drop-record-spec : {M : Type 1} → statement M
 drop-record-spec =

@@ -28,8 +28,13 @@ same-length c = search needs
 
 returns : tie.Need-returns
 returns c =
-    let a = c .before .before .before .before .before .before .before .before .before .before .before .before .before .before .before .before .before .args in
-    put-steps (now (a .state)) (a .total) (a .place) (a .size) (a .reference) (c .before .before .before .before .before .before .before .before .before .before .before .before .before .before .open-lines .ensures) (c .before .before .before .before .before .before .before .before .before .before .write-u16 .ensures) (c .before .before .before .before .before .before .open-lines2 .ensures) (c .before .before .write-u32 .ensures)
+    let w4 = c .before .before in
+    let w3 = w4 .before .before .before .before in
+    let w2 = w3 .before .before .before .before in
+    let w1 = w2 .before .before .before .before in
+    let a = w1 .before .before .before .args in
+    put-steps (now (a .state)) (a .total) (a .place) (a .size) (a .reference) (w1 .open-lines .ensures) (w2 .write-u16 .ensures) (w3 .open-lines2 .ensures)
+    (w4 .write-u32 .ensures)
 
 pub put-record-spec : {M : Type 1} → statement M
 put-record-spec =

@@ -24,8 +24,10 @@ first-of-requires-2 c κs = search needs
 
 drop-record-requires : tie.Need-drop-record-requires
 drop-record-requires c κs =
+    let all = c .before .first-of2 in
+    let first = c .before .before .before .first-of in
     let a = c .before .before .before .before .before .before .before .args in
-    omega (arith, first-within (now (a .state)) (a .slot) 64 (omega arith), c .before .before .before .first-of .ensures, c .before .first-of2 .ensures)
+    omega (arith, first-within (now (a .state)) (a .slot) 64 (omega arith), first .ensures, all .ensures)
 
 sub-state : tie.Need-sub-state
 sub-state c = search needs
@@ -41,12 +43,14 @@ same-length c = search needs
 
 returns : tie.Need-returns
 returns c =
-    let a = c .before .before .before .before .before .before .before .before .before .before .args in
-    let p = c .before .before .drop-record in
+    let edit = c .before .before in
+    let all = edit .before .before .first-of2 in
+    let first = edit .before .before .before .before .first-of in
+    let a = edit .before .before .before .before .before .before .before .before .args in
+    let b = now (a .state) in
     λ s h rest F e q.
-    rw (p .ensures)
-    (bytes-taken (now (a .state)) (a .slot) (c .before .before .before .before .before .before .first-of .result) (c .before .before .before .before .first-of2 .result) (getD (now (a .state)) (128 + a .slot) 0) F e (omega arith)
-    (c .before .before .before .before .first-of2 .ensures) refl h rest (c .before .before .before .before .before .before .first-of .ensures) q)
+    rw (edit .drop-record .ensures)
+    (bytes-taken b (a .slot) (first .result) (all .result) (getD b (128 + a .slot) 0) F e (omega arith) (all .ensures) refl h rest (first .ensures) q)
 
 pub take-record-spec : {M : Type 1} → statement M
 take-record-spec =

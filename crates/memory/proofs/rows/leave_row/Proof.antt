@@ -39,10 +39,13 @@ same-length c = search needs
 
 returns : tie.Need-returns
 returns c =
-    let a = c .before .before .before .before .before .before .before .before .before .args in
+    let slide = c .before .before in
+    let count = slide .before .before .row-count in
+    let place = slide .before .before .before .before .place-of in
+    let a = slide .before .before .before .before .before .before .before .args in
     λ s F e.
-    rw (c .before .before .slide-down .ensures)
-    (bytes-gone (now (a .state)) (a .slot) (c .before .before .before .before .row-count .result) F e (c .before .before .before .before .row-count .ensures .0) (c .before .before .before .before .before .before .place-of .result) (omega arith) (c .before .before .before .before .before .before .place-of .ensures .1))
+    rw (slide .slide-down .ensures)
+    (bytes-gone (now (a .state)) (a .slot) (count .result) F e (count .ensures .0) (place .result) (omega arith) (place .ensures .1))
 
 pub leave-row-spec : {M : Type 1} → statement M
 leave-row-spec =

@@ -38,13 +38,16 @@ loop-less : tie.Need-loop-less Inv-loop μ-loop
 loop-less c = search needs
 
 loop-again : tie.Need-loop-again Inv-loop μ-loop
-loop-again c = (search needs, search needs, search needs, below-more _ _ (c .before .before .before .loop .inv .3) (λ e. c .if1 .left (e ∙ sym (c .before .before .before .loop .inv .2))))
+loop-again c =
+    let l = c .before .before .before .loop in
+    (search needs, search needs, search needs, below-more _ _ (l .inv .3) (λ e. c .if1 .left (e ∙ sym (l .inv .2))))
 
 returns-2 : tie.Need-returns-2 Inv-loop μ-loop
 returns-2 c =
-    let b = now (c .before .before .before .before .args .state) in
+    let a = c .before .before .before .before .args in
+    let b = now (a .state) in
     let l = c .before .loop in
-    absurd (omega (arith, occurs-nowhere (getD b 832 0) (λ k. getD b k 0) (c .before .before .before .before .args .slot) (λ k h. l .inv .3 k (omega arith))))
+    absurd (omega (arith, occurs-nowhere (getD b 832 0) (λ k. getD b k 0) (a .slot) (λ k h. l .inv .3 k (omega arith))))
 
 pub place-of-spec : {M : Type 1} → statement M
 place-of-spec =
