@@ -1,0 +1,17 @@
+pub mod Lending
+pub mod Named
+pub mod Starting
+pub mod Opening
+pub mod Putting
+pub mod Closing
+pub mod Asking
+pub mod Shift
+pub mod ChoiceInNumbers
+pub mod HeadInNumbers
+pub mod SettledState
+pub mod SentState
+pub mod NoSecond
+pub mod Runs
+pub mod Observed
+pub mod Demands
+pub mod OneRound

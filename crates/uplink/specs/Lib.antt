@@ -1,0 +1,7 @@
+pub mod Told
+pub mod Found
+pub mod Holds
+pub mod PutSteps
+pub mod Choice
+pub mod Settle
+pub mod Lent

@@ -1,0 +1,100 @@
+// Next: the slot is chosen, its head record is sent and paid for, and the visit is settled.
+use super::NextAnswer;
+use super::Refusal;
+use super::choose::Choice;
+use super::choose::Chosen;
+use super::choose::choose;
+use super::settle::oldest;
+use super::settle::settle;
+use memory::check::check;
+use memory::heads::Head;
+use memory::heads::load_head;
+use memory::heads::waiting_of;
+use memory::point::load_scan;
+use memory::rows::row_count;
+use std::num::wrapping_sub_u16;
+ghost use mathlib.Core.Path.{_≡_};
+ghost use mathlib.Core.Bool.{true};
+ghost use Prim.Native.Nat.{_+_, _-_, _*_, _%_, _≤_, _<_};
+ghost use lib.ListN.{length};
+ghost use Rattle.rules.specs.Next.{nextCall};
+ghost use Rattle.memory.specs.Memory.{soundBytes, replied, on};
+ghost use Rattle.memory.specs.Reading.{waitingAt, stateOf};
+ghost use Rattle.uplink.specs.Told.{nextTold, leaving};
+ghost use Rattle.uplink.specs.Choice.{Chose};
+ghost use Rattle.uplink.specs.Settle.{paidHead};
+
+// "A visit grants 1,024 bytes."
+const GRANTED: u32 = 1024;
+
+// Next sends one record: an open visit goes on, or the first slot still to visit starts one, or the first of the next column that has a row.
+pub fn next(state: &mut [u8]) -> NextAnswer
+    ensures { λ r. ⌜ leaving (nextTold r) (now (state .exit)) ≡ on nextCall (now (state .entry)) ⌝ }
+{
+    if !check(state) {
+        return NextAnswer::Refused(Refusal::Unsound);
+    }
+    next_in(state)
+}
+
+// Next on a sound memory.
+fn next_in(state: &mut [u8]) -> NextAnswer
+    requires { ⌜ soundBytes (now state) ≡ true ⌝ }
+    ensures { λ r. ⌜ leaving (nextTold r) (now (state .exit)) ≡ replied (now (state .entry)) (nextCall (stateOf (now (state .entry)))) ⌝ }
+{
+    if row_count(state) == 0 {
+        return NextAnswer::Refused(Refusal::NoneWaits);
+    }
+    let scan = load_scan(state);
+    let Choice::Slot(chosen) = choose(state, scan) else {
+        return NextAnswer::Refused(Refusal::NoRow);
+    };
+    send(state, chosen)
+}
+
+// "The head record is sent and its length taken from the deficit."
+fn send(state: &mut [u8], chosen: Chosen) -> NextAnswer
+    requires { ⌜ Chose (now state) chosen ⌝ }
+    ensures { λ r. ⌜ leaving (nextTold r) (now (state .exit)) ≡ replied (now (state .entry)) (nextCall (stateOf (now (state .entry)))) ⌝ }
+{
+    let slot = chosen.slot;
+    let head = load_head(state, slot);
+    let first = oldest(state, slot);
+    let serial = head_serial(state, slot, head.serial);
+    let paid = paying(head, chosen.started, first.size);
+    let scan = chosen.scan;
+    settle(state, slot, paid, scan);
+    NextAnswer::Sent {
+        slot: slot as u32,
+        ticket: head.ticket,
+        length: first.size as u32,
+        reference: first.reference,
+        serial,
+        started: chosen.started,
+        terms: chosen.terms,
+    }
+}
+
+// Serials go up by one, so the head record's is the next one less the number waiting.
+fn head_serial(state: &[u8], slot: usize, serial: u16) -> u16
+    requires { ⌜ (length (now state) ≡ 7040) × (slot < 64) ⌝ }
+    ensures { λ r. ⌜ r ≡ (serial + 65536 - waitingAt (now (state .entry)) slot) % 65536 ⌝ }
+{
+    let waiting = waiting_of(state, slot);
+    wrapping_sub_u16(serial, waiting as u16)
+}
+
+// The deficit, with the grant where the visit starts, pays for the record.
+fn paying(head: Head, started: u32, size: u16) -> Head
+    requires { ⌜ (head .deficit + started * 1024 ≤ 2047) × (size ≤ head .deficit + started * 1024) ⌝ }
+    ensures { λ r. ⌜ r ≡ paidHead head started size ⌝ }
+{
+    let funded = head.deficit as u32 + started * GRANTED;
+    Head {
+        kind: head.kind,
+        ticket: head.ticket,
+        weight: head.weight,
+        deficit: (funded - size as u32) as u16,
+        serial: head.serial,
+    }
+}
