@@ -1,0 +1,64 @@
+-- A buffer of another length keeps all, a refusal has cleared it, and an answer's fields are its words. Assumes nothing.
+use borrow.Author.Needs.{needs}
+use mathlib.Core.Path.{refl, ap}
+use Rattle.driver.specs.EnteredLaws.{entered-kept, entered-refused, entered-given}
+use Rattle.driver.specs.Entered.{stateless}
+use Rattle.driver.proofs.uplink_term.Statement.{statement}
+use Rattle.driver.proofs.uplink_term.Tie as tie
+
+returns : tie.Need-returns
+returns c = entered-kept _ _ _ _ _ (c .if1 .taken)
+
+term-requires : tie.Need-term-requires
+term-requires c κs = search needs
+
+enum-known-term : tie.Need-enum-known-term
+enum-known-term c = search needs
+
+slice-aggregate-give : tie.Need-slice-aggregate-give
+slice-aggregate-give c = search needs
+
+give-requires : tie.Need-give-requires
+give-requires c κs = search needs
+
+enum-told : tie.Need-enum-told
+enum-told c = search needs
+
+clear-requires : tie.Need-clear-requires
+clear-requires c κs = search needs
+
+same-length : tie.Need-same-length
+same-length c = search needs
+
+returns-2 : tie.Need-returns-2
+returns-2 c =
+    let done = c .before .before in
+    let told = done .before .before .before .before .term2 .given .1 in
+    let call = done .before .before .before .before .before .before in
+    entered-given _ _ _ _ _ _ (call .before .if1 .left) (ap stateless (rw told at (call .term .ensures))) (done .give .ensures)
+
+same-length-2 : tie.Need-same-length-2
+same-length-2 c = search needs
+
+returns-3 : tie.Need-returns-3
+returns-3 c =
+    let done = c .before .before in
+    let told = done .before .before .enum-told .given .1 in
+    let call = done .before .before .before .before in
+    entered-refused _ _ _ _ _ _ (call .before .if1 .left) (ap stateless (rw told at (call .term .ensures))) (refl, done .clear .ensures)
+
+pub uplink-term-spec : {M : Type 1} → statement M
+uplink-term-spec =
+    tie.close
+    (tie.spec
+    returns
+    term-requires
+    enum-known-term
+    slice-aggregate-give
+    give-requires
+    enum-told
+    clear-requires
+    same-length
+    returns-2
+    same-length-2
+    returns-3)

@@ -1,0 +1,62 @@
+-- What an entry for C does: the number sent back, and the bytes of both lent buffers. Assumes nothing.
+use Prim.Native.Nat.{ℕ}
+use mathlib.Core.Bool.{cond}
+use mathlib.Core.List.{List, [], _∷_}
+use lib.Dec.{eqb}
+use lib.ListN.{length, replicate}
+use lib.IntN.{ℤ}
+use Rattle.spread.specs.Answer.{unsound, numberOf, Answer, refused, given, number}
+use Rattle.rules.specs.Calls.{Opened, Taken, Closed, Asked}
+use Rattle.rules.specs.Next.{Sent}
+use Rattle.memory.specs.Memory.{Left}
+use Rattle.uplink.specs.Told.{leaving}
+use Rattle.driver.specs.Words.{lowFirst, words, twos}
+
+-- what the caller has in hand after a call; a call that is lent no state, or no answer buffer, has [] there
+pub record Entry : Type 0 where
+  pub number : ℕ
+  pub state : List ℕ
+  pub answer : List ℕ
+
+abbrev pub entry : ℕ → List ℕ → List ℕ → Entry
+entry n s a = record { number = n; state = s; answer = a }
+
+-- "Anything else: refused, .. and all fields of the answer are 0."
+abbrev pub shown : {A : Type 0} → ℕ → (A → List ℕ) → Answer A → List ℕ
+shown n bytes (refused r) = replicate n 0
+shown n bytes (given a) = bytes a
+
+-- a call whose answer is n bytes: "an answer buffer of another length gives 10 before all else: neither buffer is touched"
+unfoldable pub entered : {A : Type 0} → ℕ → (A → List ℕ) → Left A → List ℕ → List ℕ → Entry
+entered n bytes left state answer =
+    cond (eqb (length answer) n) (entry (number (left .answer)) (left .bytes) (shown n bytes (left .answer)))
+    (entry (numberOf unsound) state answer)
+
+-- what a call without a state leaves
+abbrev pub stateless : {A : Type 0} → Answer A → Left A
+stateless a = leaving a []
+
+-- ---- The fields of each answer, in document 01's order.
+abbrev pub startBytes : Unit {0} → List ℕ
+startBytes a = []
+
+abbrev pub openBytes : Opened → List ℕ
+openBytes a = words (a .slot ∷ a .ticket ∷ [])
+
+abbrev pub putBytes : Taken → List ℕ
+putBytes a = words (a .serial ∷ a .waiting ∷ [])
+
+abbrev pub closeBytes : Closed → List ℕ
+closeBytes a = words (a .freed ∷ [])
+
+abbrev pub nextBytes : Sent → List ℕ
+nextBytes a = words (a .slot ∷ a .ticket ∷ a .size ∷ a .reference ∷ a .serial ∷ a .started ∷ a .terms ∷ [])
+
+abbrev pub askBytes : Asked → List ℕ
+askBytes a = words (a .kind ∷ a .weight ∷ a .deficit ∷ a .waiting ∷ [])
+
+abbrev pub termBytes : ℕ → List ℕ
+termBytes t = words (t ∷ [])
+
+abbrev pub leadBytes : ℤ → List ℕ
+leadBytes z = lowFirst 8 (twos z)

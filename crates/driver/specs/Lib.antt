@@ -1,0 +1,4 @@
+pub mod Words
+pub mod WordsLaws
+pub mod Entered
+pub mod EnteredLaws

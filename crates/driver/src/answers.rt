@@ -1,0 +1,70 @@
+// What comes back in C: a refusal's number, and the fields of an answer in the lent buffer.
+use octets::low_first::write_u32;
+use uplink::Refusal;
+ghost use mathlib.Core.Path.{_≡_};
+ghost use Prim.Native.Nat.{_*_};
+ghost use lib.ListN.{length, replicate};
+ghost use Rattle.spread.specs.Answer.{numberOf};
+ghost use Rattle.uplink.specs.Told.{refusalTold};
+ghost use Rattle.driver.specs.Words.{words, twos};
+
+// The number of a refusal, by document 01's table.
+pub fn number_of(why: Refusal) -> u32
+    ensures { λ r. ⌜ r ≡ numberOf (refusalTold why) ⌝ }
+{
+    match why {
+        Refusal::NoSlot => 1,
+        Refusal::NotPresent => 2,
+        Refusal::AtClosing => 3,
+        Refusal::BadLength => 4,
+        Refusal::Full => 5,
+        Refusal::BadWeight => 6,
+        Refusal::NoneFree => 7,
+        Refusal::NoneWaits => 8,
+        Refusal::NoRow => 9,
+        Refusal::Unsound => 10,
+    }
+}
+
+// Each byte of the buffer becomes 0.
+pub fn clear(answer: &mut [u8])
+    ensures { λ _. ⌜ now (answer .exit) ≡ replicate (length (now (answer .entry))) 0 ⌝ }
+{
+    let mut i = 0;
+    while i < answer.len() {
+        answer[i] = 0;
+        i += 1;
+    }
+}
+
+// A refusal: its number, and an answer without fields.
+pub fn refuse(answer: &mut [u8], why: Refusal) -> u32
+    ensures { λ r. ⌜ (r ≡ numberOf (refusalTold why)) × (now (answer .exit) ≡ replicate (length (now (answer .entry))) 0) ⌝ }
+{
+    clear(answer);
+    number_of(why)
+}
+
+// An answer given: the fields one after the other, each as 4 bytes, lowest first, and the number 0.
+pub fn give(answer: &mut [u8], fields: &[u32]) -> u32
+    requires { ⌜ length (now answer) ≡ 4 * length (now fields) ⌝ }
+    ensures { λ r. ⌜ (r ≡ 0) × (now (answer .exit) ≡ words (now (fields .entry))) ⌝ }
+{
+    let mut i = 0;
+    while i < fields.len() {
+        write_u32(answer, 4 * i, 1, fields[i]);
+        i += 1;
+    }
+    0
+}
+
+// The 64 bits of a signed number in two's complement.
+pub fn bits_of(z: i64) -> u64
+    ensures { λ r. ⌜ r ≡ twos z ⌝ }
+{
+    if z >= 0 {
+        z as u64
+    } else {
+        u64::MAX - (-(z + 1)) as u64
+    }
+}

@@ -1,0 +1,198 @@
+// The entries for C, and nothing else: include/uplink.h declares them and docs/ANSWERS.md has every byte of their answers.
+//
+// An entry is lent the state and an answer buffer. It asks for the buffer's length, calls the proved function of the same name, and puts what that
+// answers into the buffer and the number. One contract for all, without a `requires`: the number, the state left and the buffer left are what `entered`
+// says of the rules' own call. `rt staticlib driver` exports only this crate's functions, which is why they stand by themselves.
+use answers::bits_of;
+use answers::clear;
+use answers::give;
+use answers::refuse;
+use octets::low_first::write_u64;
+use spread::LeadAnswer;
+use spread::TermAnswer;
+use uplink::AskAnswer;
+use uplink::CloseAnswer;
+use uplink::NextAnswer;
+use uplink::OpenAnswer;
+use uplink::PutAnswer;
+use uplink::StartAnswer;
+ghost use mathlib.Core.Path.{_≡_};
+ghost use mathlib.Core.List.{[]};
+ghost use Rattle.spread.specs.Calls.{termCall, leadCall};
+ghost use Rattle.rules.specs.Calls.{openCall, putCall, closeCall, askCall};
+ghost use Rattle.rules.specs.Next.{nextCall};
+ghost use Rattle.memory.specs.Memory.{on, startOn};
+ghost use Rattle.driver.specs.Entered.{entry, entered, stateless, startBytes, openBytes, putBytes, closeBytes, nextBytes, askBytes, termBytes, leadBytes};
+
+pub mod answers; // answers.rt: numbers and fields
+
+// The numbers of an answer buffer of another length, of a weight out of range and of a term that there is none of.
+const UNSOUND: u32 = 10;
+
+const BAD_WEIGHT: u32 = 6;
+
+const NO_TERM: u32 = 11;
+
+// Makes the state fresh. It has no answer buffer.
+#[no_mangle]
+pub extern "C" fn uplink_start(state: &mut [u8]) -> u32
+    ensures { λ r. ⌜ entry r (now (state .exit)) [] ≡ entered 0 startBytes (startOn (now (state .entry))) (now (state .entry)) [] ⌝ }
+{
+    match uplink::open::start(state) {
+        StartAnswer::Started => 0,
+        StartAnswer::Refused(why) => answers::number_of(why),
+    }
+}
+
+// Opens a channel. Answer: slot, ticket.
+#[no_mangle]
+pub extern "C" fn uplink_open(state: &mut [u8], weight: u32, answer: &mut [u8]) -> u32
+    ensures { λ r. ⌜ entry r (now (state .exit)) (now (answer .exit)) ≡ entered 8 openBytes (on (openCall weight) (now (state .entry))) (now (state .entry)) (now (answer .entry)) ⌝ }
+{
+    if answer.len() != 8 {
+        return UNSOUND;
+    }
+    match uplink::open::open(state, weight) {
+        OpenAnswer::Opened { slot, ticket } => {
+            let fields = [slot, ticket];
+            give(answer, &fields)
+        }
+        OpenAnswer::Refused(why) => refuse(answer, why),
+    }
+}
+
+// Adds a record. Answer: serial, number now waiting.
+#[no_mangle]
+pub extern "C" fn uplink_put(
+    state: &mut [u8],
+    slot: u32,
+    ticket: u32,
+    length: u32,
+    reference: u32,
+    answer: &mut [u8],
+) -> u32
+    ensures { λ r. ⌜ entry r (now (state .exit)) (now (answer .exit)) ≡ entered 8 putBytes (on (putCall slot ticket length reference) (now (state .entry))) (now (state .entry)) (now (answer .entry)) ⌝ }
+{
+    if answer.len() != 8 {
+        return UNSOUND;
+    }
+    match uplink::put::put(state, slot, ticket, length, reference) {
+        PutAnswer::Taken { serial, waiting } => {
+            let fields = [serial as u32, waiting];
+            give(answer, &fields)
+        }
+        PutAnswer::Refused(why) => refuse(answer, why),
+    }
+}
+
+// Closes a channel. Answer: 1 if its slot is free at once, 0 if its records are sent first.
+#[no_mangle]
+pub extern "C" fn uplink_close(state: &mut [u8], slot: u32, ticket: u32, answer: &mut [u8]) -> u32
+    ensures { λ r. ⌜ entry r (now (state .exit)) (now (answer .exit)) ≡ entered 4 closeBytes (on (closeCall slot ticket) (now (state .entry))) (now (state .entry)) (now (answer .entry)) ⌝ }
+{
+    if answer.len() != 4 {
+        return UNSOUND;
+    }
+    match uplink::close::close(state, slot, ticket) {
+        CloseAnswer::Closed(freed) => {
+            let fields = [freed];
+            give(answer, &fields)
+        }
+        CloseAnswer::Refused(why) => refuse(answer, why),
+    }
+}
+
+// Takes the next record to send off its queue. Answer: slot, ticket, length, reference, serial, 1 if this send started a visit else 0, terms taken.
+#[no_mangle]
+pub extern "C" fn uplink_next(state: &mut [u8], answer: &mut [u8]) -> u32
+    ensures { λ r. ⌜ entry r (now (state .exit)) (now (answer .exit)) ≡ entered 28 nextBytes (on nextCall (now (state .entry))) (now (state .entry)) (now (answer .entry)) ⌝ }
+{
+    if answer.len() != 28 {
+        return UNSOUND;
+    }
+    match uplink::next::next(state) {
+        NextAnswer::Sent {
+            slot,
+            ticket,
+            length,
+            reference,
+            serial,
+            started,
+            terms,
+        } => {
+            let fields = [
+                slot,
+                ticket,
+                length,
+                reference,
+                serial as u32,
+                started,
+                terms,
+            ];
+            give(answer, &fields)
+        }
+        NextAnswer::Refused(why) => refuse(answer, why),
+    }
+}
+
+// Tells of a channel, and changes nothing. Answer: 1 for open or 2 for closing, weight, deficit, number waiting.
+#[no_mangle]
+pub extern "C" fn uplink_ask(state: &[u8], slot: u32, ticket: u32, answer: &mut [u8]) -> u32
+    ensures { λ r. ⌜ entry r (now (state .entry)) (now (answer .exit)) ≡ entered 16 askBytes (on (askCall slot ticket) (now (state .entry))) (now (state .entry)) (now (answer .entry)) ⌝ }
+{
+    if answer.len() != 16 {
+        return UNSOUND;
+    }
+    match uplink::ask::ask(state, slot, ticket) {
+        AskAnswer::Asked {
+            kind,
+            weight,
+            deficit,
+            waiting,
+        } => {
+            let fields = [kind, weight, deficit, waiting];
+            give(answer, &fields)
+        }
+        AskAnswer::Refused(why) => refuse(answer, why),
+    }
+}
+
+// The term at a position of the spread sequence of an order. Answer: the term.
+#[no_mangle]
+pub extern "C" fn uplink_term(order: u32, position: u32, answer: &mut [u8]) -> u32
+    ensures { λ r. ⌜ entry r [] (now (answer .exit)) ≡ entered 4 termBytes (stateless (termCall order position)) [] (now (answer .entry)) ⌝ }
+{
+    if answer.len() != 4 {
+        return UNSOUND;
+    }
+    match spread::term(order, position) {
+        TermAnswer::Term(term) => {
+            let fields = [term];
+            give(answer, &fields)
+        }
+        TermAnswer::Refused => {
+            clear(answer);
+            NO_TERM
+        }
+    }
+}
+
+// The signed lead of two weights and visit counts. Answer: the lead, 8 bytes.
+#[no_mangle]
+pub extern "C" fn uplink_lead(w1: u32, v1: u32, w2: u32, v2: u32, answer: &mut [u8]) -> u32
+    ensures { λ r. ⌜ entry r [] (now (answer .exit)) ≡ entered 8 leadBytes (stateless (leadCall w1 v1 w2 v2)) [] (now (answer .entry)) ⌝ }
+{
+    if answer.len() != 8 {
+        return UNSOUND;
+    }
+    match spread::lead(w1, v1, w2, v2) {
+        LeadAnswer::Lead(lead) => {
+            write_u64(answer, 0, 1, bits_of(lead));
+            0
+        }
+        LeadAnswer::Refused => {
+            clear(answer);
+            BAD_WEIGHT
+        }
+    }
+}

@@ -1,0 +1,154 @@
+//! The answers of the calls and the numbers sent back (document 01, "The calls" and "Numbers sent back").
+
+/// Why a call is refused. The discriminant is document 01's number.
+#[derive(Clone, Copy, Debug, PartialEq, Eq)]
+pub enum Refusal {
+    /// "slot above 63"
+    SlotAbove = 1,
+    /// "slot free, or ticket not its present one"
+    NotPresent = 2,
+    /// "channel is closing"
+    IsClosing = 3,
+    /// "length 0 or above 1,024"
+    BadLength = 4,
+    /// "16 records wait already"
+    Full = 5,
+    /// "weight 0 or above 4,095"
+    BadWeight = 6,
+    /// "no slot can be opened"
+    NoSlot = 7,
+    /// "no record waits"
+    NothingWaits = 8,
+    /// "two terms taken and both columns empty"
+    EmptyColumns = 9,
+    /// "lent state unsound or of wrong length"
+    Unsound = 10,
+    /// "order not 1 to 12, or position not 1 to 2^order - 1"
+    BadTerm = 11,
+}
+
+impl Refusal {
+    pub const ALL: [Refusal; 11] = [
+        Refusal::SlotAbove,
+        Refusal::NotPresent,
+        Refusal::IsClosing,
+        Refusal::BadLength,
+        Refusal::Full,
+        Refusal::BadWeight,
+        Refusal::NoSlot,
+        Refusal::NothingWaits,
+        Refusal::EmptyColumns,
+        Refusal::Unsound,
+        Refusal::BadTerm,
+    ];
+
+    /// Document 01's number.
+    pub fn number(self) -> u32 {
+        self as u32
+    }
+
+    /// The refusal with this number; none for 0 and for numbers that are not in the table.
+    pub fn from_number(number: u32) -> Option<Refusal> {
+        Refusal::ALL.into_iter().find(|refusal| refusal.number() == number)
+    }
+}
+
+/// What Open answers.
+#[derive(Clone, Copy, Debug, PartialEq, Eq)]
+pub struct Opened {
+    pub slot: u32,
+    pub ticket: u32,
+}
+
+/// What Put answers.
+#[derive(Clone, Copy, Debug, PartialEq, Eq)]
+pub struct Added {
+    pub serial: u32,
+    pub waiting: u32,
+}
+
+/// What Close answers: 1 for a channel freed at once, 0 for one that drains.
+#[derive(Clone, Copy, Debug, PartialEq, Eq)]
+pub enum Closed {
+    Draining,
+    Freed,
+}
+
+/// What Next answers.
+#[derive(Clone, Copy, Debug, PartialEq, Eq)]
+pub struct Sent {
+    pub slot: u32,
+    pub ticket: u32,
+    pub length: u32,
+    pub reference: u32,
+    pub serial: u32,
+    /// This send started the visit.
+    pub started: bool,
+    /// Terms taken: 0, 1 or 2.
+    pub terms: u32,
+}
+
+/// Whether a held channel takes records: 1 for open, 2 for closing.
+#[derive(Clone, Copy, Debug, PartialEq, Eq)]
+pub enum Standing {
+    Open,
+    Closing,
+}
+
+/// What Ask answers.
+#[derive(Clone, Copy, Debug, PartialEq, Eq)]
+pub struct Told {
+    pub standing: Standing,
+    pub weight: u32,
+    pub deficit: u32,
+    pub waiting: u32,
+}
+
+/// An answer as document 01 lists it: its fields in order.
+pub trait Fields {
+    fn fields(&self) -> Vec<u32>;
+}
+
+impl Fields for () {
+    fn fields(&self) -> Vec<u32> {
+        Vec::new()
+    }
+}
+
+impl Fields for Opened {
+    fn fields(&self) -> Vec<u32> {
+        vec![self.slot, self.ticket]
+    }
+}
+
+impl Fields for Added {
+    fn fields(&self) -> Vec<u32> {
+        vec![self.serial, self.waiting]
+    }
+}
+
+impl Fields for Closed {
+    fn fields(&self) -> Vec<u32> {
+        vec![match self {
+            Closed::Draining => 0,
+            Closed::Freed => 1,
+        }]
+    }
+}
+
+impl Fields for Sent {
+    fn fields(&self) -> Vec<u32> {
+        let started = u32::from(self.started);
+        vec![self.slot, self.ticket, self.length, self.reference, self.serial, started, self.terms]
+    }
+}
+
+impl Fields for Told {
+    fn fields(&self) -> Vec<u32> {
+        let standing = match self.standing {
+            Standing::Open => 1,
+            Standing::Closing => 2,
+        };
+        vec![standing, self.weight, self.deficit, self.waiting]
+    }
+}

@@ -1,0 +1,235 @@
+//! The comparer: each call is made on the engine under test, on lent bytes, and on the independent scheduler, on its own state.
+//! The number, every byte of the answer and every byte of the memory must agree after each call.
+
+use std::fmt;
+
+use crate::answers::{Fields, Refusal};
+use crate::engine::Engine;
+use crate::generate;
+use crate::history::{Call, History, Step};
+use crate::layout;
+use crate::model::answer_bytes;
+use crate::scheduler::Scheduler;
+use crate::shrink::shrink;
+use crate::spread;
+
+/// What an answer buffer holds before a call, so that bytes not written show.
+const UNWRITTEN: u8 = 0xa5;
+/// Bytes on each side of what is lent, which no call may touch. Odd, so that nothing is lent at an even address.
+const MARGIN: usize = 61;
+
+/// Where engine and scheduler part.
+#[derive(Clone, Debug)]
+pub struct Difference {
+    /// The step of the history, from 0.
+    pub step: usize,
+    pub what: String,
+}
+
+/// A difference with the shortest history found for it.
+#[derive(Clone, Debug)]
+pub struct Report {
+    /// Calls compared until the difference showed, over all histories of the run.
+    pub calls: u64,
+    pub history: History,
+    pub difference: Difference,
+}
+
+impl fmt::Display for Report {
+    fn fmt(&self, out: &mut fmt::Formatter) -> fmt::Result {
+        writeln!(out, "# difference after {} calls, seed {}, shape: {}", self.calls, self.history.seed, self.history.shape)?;
+        for line in self.difference.what.lines() {
+            writeln!(out, "# {line}")?;
+        }
+        writeln!(out, "# shortest history found, {} steps; the last one differs:", self.history.steps.len())?;
+        write!(out, "{}", self.history)
+    }
+}
+
+/// Bytes lent to the engine, between two margins.
+struct Lent {
+    bytes: Vec<u8>,
+}
+
+impl Lent {
+    fn new(content: &[u8]) -> Lent {
+        let mut bytes = vec![UNWRITTEN; content.len() + 2 * MARGIN];
+        bytes[MARGIN..MARGIN + content.len()].copy_from_slice(content);
+        Lent { bytes }
+    }
+
+    fn content(&mut self) -> &mut [u8] {
+        let end = self.bytes.len() - MARGIN;
+        &mut self.bytes[MARGIN..end]
+    }
+
+    /// The first difference from what is expected, with its place named by the given words.
+    fn differs(&self, expected: &[u8], name: impl Fn(usize) -> String) -> Option<String> {
+        let end = self.bytes.len() - MARGIN;
+        let content = &self.bytes[MARGIN..end];
+        if content != expected {
+            let place = (0..expected.len()).find(|&at| content[at] != expected[at])?;
+            let (is, should) = (content[place], expected[place]);
+            return Some(format!("byte {place} of {}: {is}, should be {should}", name(place)));
+        }
+        let margins = self.bytes[..MARGIN].iter().chain(&self.bytes[end..]);
+        margins.into_iter().any(|&byte| byte != UNWRITTEN).then(|| format!("bytes beside {} were written", name(0)))
+    }
+}
+
+/// The engine's memory beside the independent scheduler's state.
+struct Pair {
+    lent: Lent,
+    /// The bytes that the memory should hold.
+    expected: Vec<u8>,
+    /// None while the memory is unsound.
+    scheduler: Option<Scheduler>,
+}
+
+/// Runs a history. The number of calls compared, or the first difference.
+pub fn run<E: Engine + ?Sized>(engine: &mut E, history: &History) -> Result<u64, Difference> {
+    let mut pair =
+        Pair { lent: Lent::new(&history.memory), expected: history.memory.clone(), scheduler: layout::sound_from_bytes(&history.memory) };
+    let mut calls = 0;
+    for (number, step) in history.steps.iter().enumerate() {
+        let outcome = match step {
+            Step::Call(call) => pair.call(engine, call),
+            Step::Mislent { call, state_length, answer_length } => pair.mislent(engine, call, *state_length, *answer_length),
+            Step::Damage { place, flip } => pair.damage(*place, *flip),
+        };
+        outcome.map_err(|what| Difference { step: number, what })?;
+        calls += u64::from(!matches!(step, Step::Damage { .. }));
+    }
+    Ok(calls)
+}
+
+impl Pair {
+    fn call<E: Engine + ?Sized>(&mut self, engine: &mut E, call: &Call) -> Result<(), String> {
+        let (number, expected_answer) = self.expect(call);
+        let mut answer = Lent::new(&[UNWRITTEN; 28][..call.answer_length()]);
+        let given = engine.call(call, self.lent.content(), answer.content());
+        if given != number {
+            return Err(format!("number {given}, should be {number}"));
+        }
+        if let Some(what) = answer.differs(&expected_answer, |_| "the answer".to_string()) {
+            return Err(what);
+        }
+        if let Some(what) = self.lent.differs(&self.expected, |place| format!("the memory ({})", layout::name_of(place))) {
+            return Err(what);
+        }
+        Ok(())
+    }
+
+    /// The number and the answer bytes that document 01 gives the call; the expected memory follows.
+    fn expect(&mut self, call: &Call) -> (u32, Vec<u8>) {
+        let reply = match *call {
+            Call::Start => {
+                self.scheduler = Some(Scheduler::start());
+                Ok(Vec::new())
+            }
+            Call::Lead { w1, v1, w2, v2 } => spread::lead(w1, v1, w2, v2).map(|lead| lead.to_le_bytes().to_vec()),
+            Call::Term { order, position } => spread::term(order, position).map(|term| answer_bytes(&[term])),
+            _ => match &mut self.scheduler {
+                Some(scheduler) => state_call(scheduler, call).map(|fields| answer_bytes(&fields)),
+                None => Err(Refusal::Unsound),
+            },
+        };
+        match reply {
+            Ok(answer) => {
+                if let (Some(scheduler), true) = (&self.scheduler, call.takes_state()) {
+                    assert!(scheduler.sound(), "the independent scheduler left an unsound state: {scheduler:?}");
+                    layout::write(scheduler, &mut self.expected);
+                }
+                (0, answer)
+            }
+            Err(refusal) => (refusal.number(), vec![0; call.answer_length()]),
+        }
+    }
+
+    /// "One of another length gets 10 before all else and keeps its bytes; any other refusal writes 0 to its fields."
+    fn mislent<E: Engine + ?Sized>(
+        &mut self,
+        engine: &mut E,
+        call: &Call,
+        state_length: usize,
+        answer_length: usize,
+    ) -> Result<(), String> {
+        let right_answer = !call.takes_answer() || answer_length == call.answer_length();
+        let right_state = !call.takes_state() || state_length == layout::LENGTH;
+        if right_answer && right_state {
+            return self.call(engine, call);
+        }
+        let before: Vec<u8> = self.expected.iter().copied().chain(std::iter::repeat(0)).take(state_length).collect();
+        let mut state = Lent::new(&before);
+        let unwritten = vec![UNWRITTEN; answer_length];
+        let mut answer = Lent::new(&unwritten);
+        let given = engine.call(call, state.content(), answer.content());
+        if given != Refusal::Unsound.number() {
+            return Err(format!("number {given}, should be 10"));
+        }
+        let kept = if call.takes_answer() && right_answer { vec![0; answer_length] } else { unwritten };
+        let name = |_| "the answer".to_string();
+        match answer.differs(&kept, name).or_else(|| state.differs(&before, |_| "the mislent memory".to_string())) {
+            Some(what) => Err(what),
+            None => Ok(()),
+        }
+    }
+
+    fn damage(&mut self, place: usize, flip: u8) -> Result<(), String> {
+        self.lent.content()[place] ^= flip;
+        self.expected[place] ^= flip;
+        self.scheduler = layout::sound_from_bytes(&self.expected);
+        Ok(())
+    }
+}
+
+/// A call on a sound state of the independent scheduler.
+pub fn state_call(scheduler: &mut Scheduler, call: &Call) -> Result<Vec<u32>, Refusal> {
+    match *call {
+        Call::Open { weight } => scheduler.open_sound(weight).map(|done| done.fields()),
+        Call::Put { slot, ticket, length, reference } => scheduler.put_sound(slot, ticket, length, reference).map(|done| done.fields()),
+        Call::Close { slot, ticket } => scheduler.close_sound(slot, ticket).map(|done| done.fields()),
+        Call::Next => scheduler.next_sound().map(|done| done.fields()),
+        Call::Ask { slot, ticket } => scheduler.ask_sound(slot, ticket).map(|done| done.fields()),
+        Call::Start | Call::Lead { .. } | Call::Term { .. } => Ok(Vec::new()),
+    }
+}
+
+/// Runs given histories one after the other. The number of calls compared, or a report of the first difference.
+pub fn run_all<E, H>(engine: &mut E, histories: H) -> Result<u64, Box<Report>>
+where
+    E: Engine + ?Sized,
+    H: IntoIterator<Item = History>,
+{
+    let mut calls = 0;
+    for history in histories {
+        match run(engine, &history) {
+            Ok(more) => calls += more,
+            Err(difference) => {
+                let made = history.steps[..=difference.step].iter().filter(|step| !matches!(step, Step::Damage { .. }));
+                calls += made.count() as u64;
+                let (history, difference) = shrink(engine, history, difference);
+                return Err(Box::new(Report { calls, history, difference }));
+            }
+        }
+    }
+    Ok(calls)
+}
+
+/// Runs the generated histories of the seeds from `seed` on, until so many calls have been compared.
+pub fn run_seeds<E: Engine + ?Sized>(engine: &mut E, seed: u64, calls: u64) -> Result<u64, Box<Report>> {
+    let mut compared = 0;
+    for seed in seed.. {
+        if compared >= calls {
+            break;
+        }
+        match run_all(engine, [generate::history(seed)]) {
+            Ok(more) => compared += more,
+            Err(mut report) => {
+                report.calls += compared;
+                return Err(report);
+            }
+        }
+    }
+    Ok(compared)
+}

@@ -1,0 +1,174 @@
+//! Memories that break a rule of soundness, by name: each rule alone where that can be, and bytes that stand for nothing.
+
+use crate::layout;
+use crate::scheduler::{Kind, Record, Scheduler};
+use crate::sound::Rule;
+use crate::states::{full, rich};
+
+/// A sound state changed so that it breaks exactly these rules.
+pub struct Breakage {
+    pub name: &'static str,
+    pub rules: &'static [Rule],
+    pub scheduler: Scheduler,
+}
+
+fn broken(name: &'static str, rules: &'static [Rule], from: Scheduler, change: fn(&mut Scheduler)) -> Breakage {
+    let mut scheduler = from;
+    change(&mut scheduler);
+    Breakage { name, rules, scheduler }
+}
+
+/// Each rule over the plain structure, broken in turn.
+pub fn breakages() -> Vec<Breakage> {
+    let mut list = of_channels();
+    list.extend(of_rows());
+    list.extend(of_the_scan());
+    list
+}
+
+fn of_channels() -> Vec<Breakage> {
+    let rich = |name, rules, change: fn(&mut Scheduler)| broken(name, rules, rich(), change);
+    vec![
+        rich("a free slot has a weight", &[Rule::Free], |state| state.channels[0].weight = 1),
+        rich("a free slot has a deficit", &[Rule::Free, Rule::Deficit], |state| state.channels[0].deficit = 1),
+        rich("a free slot has a next serial", &[Rule::Free], |state| state.channels[0].next_serial = 1),
+        rich("a free slot has a record and is a row", &[Rule::Free], |state| {
+            state.channels[0].records.push_back(Record { length: 1, reference: 1 });
+            state.rows.push(0);
+        }),
+        rich("an open slot has ticket 0", &[Rule::Held], |state| state.channels[2].ticket = 0),
+        rich("a closing slot has ticket 0", &[Rule::Held], |state| state.channels[3].ticket = 0),
+        rich("an open slot has weight 0", &[Rule::Held], |state| state.channels[2].weight = 0),
+        rich("an open slot has weight 4,096", &[Rule::Held], |state| state.channels[2].weight = 4_096),
+        rich("an open slot has weight 65,535", &[Rule::Held], |state| state.channels[2].weight = 65_535),
+        rich("a row has weight 4,096", &[Rule::Held], |state| {
+            state.channels[5].weight = 4_096;
+            state.order = 13;
+        }),
+        rich("a closing slot has no record", &[Rule::Held], |state| state.channels[2].kind = Kind::Closing),
+        rich("a length is 0", &[Rule::Records], |state| state.channels[1].records[1].length = 0),
+        rich("a length is 1,025", &[Rule::Records], |state| state.channels[1].records[1].length = 1_025),
+        rich("a length is 65,535", &[Rule::Records], |state| state.channels[5].records[15].length = 65_535),
+        rich("a head's length is 0", &[Rule::Records], |state| state.channels[63].records[0].length = 0),
+        rich("17 records wait", &[Rule::Records], |state| {
+            state.channels[5].records.push_back(Record { length: 1, reference: 1 });
+        }),
+        rich("a row's deficit is 1,024", &[Rule::Deficit], |state| state.channels[1].deficit = 1_024),
+        rich("a row's deficit is 65,535", &[Rule::Deficit], |state| state.channels[5].deficit = 65_535),
+        rich("a deficit where no record waits", &[Rule::Deficit], |state| state.channels[2].deficit = 1),
+    ]
+}
+
+fn of_rows() -> Vec<Breakage> {
+    let rich = |name, change: fn(&mut Scheduler)| broken(name, &[Rule::Rows], rich(), change);
+    let fresh = |name, change: fn(&mut Scheduler)| broken(name, &[Rule::Rows], Scheduler::start(), change);
+    vec![
+        rich("a row is missing", |state| {
+            state.rows.retain(|&row| row != 5);
+            state.order = 3;
+        }),
+        rich("a row is listed twice", |state| state.rows.push(9)),
+        rich("a row is listed in place of another", |state| state.rows[4] = 9),
+        rich("a row without records", |state| {
+            state.rows.push(2);
+            state.order = 12;
+        }),
+        rich("a row that is free", |state| state.rows.push(0)),
+        rich("a row above 63", |state| state.rows.push(64)),
+        rich("a row above 63 in place of another", |state| state.rows[4] = 255),
+        rich("the order is one too high", |state| state.order = 5),
+        rich("the order is one too low", |state| state.order = 3),
+        rich("the order is 255", |state| state.order = 255),
+        rich("the order is 0 with rows", |state| {
+            state.order = 0;
+            state.scan.position = 0;
+        }),
+        rich("the order counts a channel that is no row", |state| state.order = 12),
+        fresh("an order without rows", |state| state.order = 1),
+        fresh("a row without channels", |state| state.rows.push(0)),
+    ]
+}
+
+fn of_the_scan() -> Vec<Breakage> {
+    let rich = |name, rules, change: fn(&mut Scheduler)| broken(name, rules, rich(), change);
+    vec![
+        rich("P is 2^k", &[Rule::Position], |state| state.scan.position = 16),
+        rich("P is 65,535", &[Rule::Position], |state| state.scan.position = 65_535),
+        broken("P is 1 without rows", &[Rule::Position], Scheduler::start(), |state| state.scan.position = 1),
+        rich("a column without slots to visit", &[Rule::ToVisit], |state| state.scan.to_visit.clear()),
+        broken("a column without rows", &[Rule::ToVisit], Scheduler::start(), |state| state.scan.column = 1),
+        rich("a slot to visit without the noted bit", &[Rule::ToVisit], |state| {
+            state.scan.visit = None;
+            state.scan.to_visit.insert(63);
+        }),
+        rich("a slot to visit that has no record", &[Rule::ToVisit], |state| {
+            state.scan.to_visit.insert(2);
+        }),
+        rich("a slot to visit that is free", &[Rule::ToVisit], |state| {
+            state.scan.to_visit.insert(40);
+        }),
+        rich("slots to visit of another column", &[Rule::ToVisit], |state| state.scan.column = 3),
+        rich("column 12", &[Rule::ToVisit], |state| state.scan.column = 12),
+        rich("column 255", &[Rule::ToVisit], |state| state.scan.column = 255),
+        broken("slots to visit without rows", &[Rule::ToVisit], Scheduler::start(), |state| {
+            state.scan.to_visit.insert(0);
+        }),
+        rich("a visit of a slot without records", &[Rule::Visit], |state| state.scan.visit = Some(2)),
+        rich("a visit of a free slot", &[Rule::Visit], |state| state.scan.visit = Some(0)),
+        rich("a visit of a slot still to visit", &[Rule::Visit], |state| {
+            state.scan.visit = Some(1);
+            state.channels[1].deficit = 300;
+        }),
+        rich("a visit whose head is above its deficit", &[Rule::Visit], |state| state.channels[63].deficit = 499),
+        rich("a visit with deficit 0", &[Rule::Visit], |state| state.channels[63].deficit = 0),
+        rich("a visit with deficit 2,047", &[Rule::Visit], |state| state.channels[63].deficit = 2_047),
+        rich("a visit with deficit 65,535", &[Rule::Visit], |state| state.channels[63].deficit = 65_535),
+        broken("a visit without rows", &[Rule::Visit], Scheduler::start(), |state| state.scan.visit = Some(0)),
+        rich("a deficit above 1,023 after its visit", &[Rule::Deficit], |state| {
+            state.scan.visit = None;
+            state.channels[63].deficit = 1_024;
+        }),
+    ]
+}
+
+/// Memories with a single wrong byte: bytes that stand for nothing, and values that no state has.
+pub fn wrong_bytes() -> Vec<(&'static str, Vec<u8>)> {
+    let fresh = layout::to_bytes(&Scheduler::start());
+    let (rich, full) = (layout::to_bytes(&rich()), layout::to_bytes(&full()));
+    let set = |bytes: &[u8], place: usize, value: u8| {
+        let mut bytes = bytes.to_vec();
+        assert!(bytes[place] != value);
+        bytes[place] = value;
+        bytes
+    };
+    // Rich has 5 rows and 24 records.
+    vec![
+        ("a row after the rows", set(&rich, 5, 1)),
+        ("a row in the last place", set(&rich, 63, 63)),
+        ("kind 3", set(&rich, 64 + 40, 3)),
+        ("kind 255", set(&rich, 64 + 1, 255)),
+        ("a free slot is open", set(&fresh, 64 + 7, 1)),
+        ("one record more than there are", set(&rich, 128 + 63, 3)),
+        ("one record fewer than there are", set(&rich, 128 + 63, 1)),
+        ("255 records of one channel", set(&rich, 128 + 1, 255)),
+        ("more records than places", set(&full, 128 + 63, 17)),
+        ("more records than places, at the first slot", set(&full, 128, 255)),
+        ("one row fewer", set(&rich, 832, 4)),
+        ("one row more", set(&rich, 832, 6)),
+        ("65 rows", set(&full, 832, 65)),
+        ("255 rows", set(&fresh, 832, 255)),
+        ("visit 65", set(&rich, 845, 65)),
+        ("visit 255", set(&rich, 845, 255)),
+        ("the first byte after the scan point", set(&rich, 846, 1)),
+        ("the last byte of the scan point's line", set(&rich, 895, 128)),
+        ("a length after the run", set(&rich, 896 + 24, 1)),
+        ("a length after the run, high byte", set(&rich, 1_920 + 24, 1)),
+        ("a length in the last place", set(&rich, 896 + 1_023, 255)),
+        ("a length in the last place, high byte", set(&fresh, 1_920 + 1_023, 4)),
+        ("a reference after the run, byte 0", set(&rich, 2_944 + 24, 1)),
+        ("a reference after the run, byte 1", set(&rich, 3_968 + 24, 1)),
+        ("a reference after the run, byte 2", set(&rich, 4_992 + 24, 1)),
+        ("a reference after the run, byte 3", set(&rich, 6_016 + 24, 1)),
+        ("a reference in the last place", set(&fresh, 7_039, 128)),
+    ]
+}

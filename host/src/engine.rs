@@ -1,0 +1,29 @@
+//! An engine under test: the C entries' shape, on lent slices.
+
+use crate::history::Call;
+
+/// Each call answers document 01's number; the fields go to the answer buffer.
+pub trait Engine {
+    fn start(&mut self, state: &mut [u8]) -> u32;
+    fn open(&mut self, state: &mut [u8], weight: u32, answer: &mut [u8]) -> u32;
+    fn put(&mut self, state: &mut [u8], slot: u32, ticket: u32, length: u32, reference: u32, answer: &mut [u8]) -> u32;
+    fn close(&mut self, state: &mut [u8], slot: u32, ticket: u32, answer: &mut [u8]) -> u32;
+    fn next(&mut self, state: &mut [u8], answer: &mut [u8]) -> u32;
+    fn ask(&mut self, state: &mut [u8], slot: u32, ticket: u32, answer: &mut [u8]) -> u32;
+    fn lead(&mut self, w1: u32, v1: u32, w2: u32, v2: u32, answer: &mut [u8]) -> u32;
+    fn term(&mut self, order: u32, position: u32, answer: &mut [u8]) -> u32;
+
+    /// The call by its name.
+    fn call(&mut self, call: &Call, state: &mut [u8], answer: &mut [u8]) -> u32 {
+        match *call {
+            Call::Start => self.start(state),
+            Call::Open { weight } => self.open(state, weight, answer),
+            Call::Put { slot, ticket, length, reference } => self.put(state, slot, ticket, length, reference, answer),
+            Call::Close { slot, ticket } => self.close(state, slot, ticket, answer),
+            Call::Next => self.next(state, answer),
+            Call::Ask { slot, ticket } => self.ask(state, slot, ticket, answer),
+            Call::Lead { w1, v1, w2, v2 } => self.lead(w1, v1, w2, v2, answer),
+            Call::Term { order, position } => self.term(order, position, answer),
+        }
+    }
+}

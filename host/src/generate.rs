@@ -1,0 +1,288 @@
+//! Histories from seeds. A history is built beside a scheduler of its own, so that most calls are ones that can be accepted.
+
+use crate::compare::state_call;
+use crate::history::{Call, History, Step};
+use crate::layout;
+use crate::random::Random;
+use crate::scheduler::{Kind, Scheduler, SLOTS};
+use crate::shapes::{Action, Shape, SHAPES};
+
+const BAD_SLOTS: [u32; 7] = [64, 65, 128, 256, 320, 0x8000_0000, u32::MAX];
+const BAD_WEIGHTS: [u32; 7] = [0, 4_096, 4_097, 8_191, 65_537, 0x8000_0001, u32::MAX];
+const BAD_LENGTHS: [u32; 7] = [0, 1_025, 1_026, 2_048, 65_537, 0x8000_0001, u32::MAX];
+const EDGES: [u32; 8] = [0, 1, 2, 0x7fff_ffff, 0x8000_0000, 0xffff_fffe, 0xffff_ffff, 0x0001_0000];
+
+/// The history of a seed; its shape goes by the seed too.
+pub fn history(seed: u64) -> History {
+    let shape = &SHAPES[(seed % SHAPES.len() as u64) as usize];
+    history_of(shape, seed)
+}
+
+/// The history of this shape and seed.
+pub fn history_of(shape: &'static Shape, seed: u64) -> History {
+    let mut random = Random::new(seed);
+    let now = (shape.begin)(&mut random);
+    assert!(now.sound(), "a history begins in a sound state: {}, seed {seed}", shape.name);
+    let memory = layout::to_bytes(&now);
+    let mut builder = Builder { random, shape, now, sound: true, old: Vec::new(), steps: Vec::new() };
+    builder.build();
+    History { seed, shape: shape.name, memory, steps: builder.steps }
+}
+
+struct Builder {
+    random: Random,
+    shape: &'static Shape,
+    now: Scheduler,
+    /// False while the memory is damaged: then every call is refused.
+    sound: bool,
+    /// Slots and tickets of channels that were closed.
+    old: Vec<(u32, u32)>,
+    steps: Vec<Step>,
+}
+
+impl Builder {
+    fn build(&mut self) {
+        if self.shape.channels > 20 {
+            for _ in 0..self.random.from_to(1, self.shape.channels) {
+                self.act(Action::Open);
+            }
+        }
+        for _ in 0..self.random.from_to(1, 6) {
+            // Fill, drain, or neither: the part that Put and Next have beside what the shape gives them.
+            let (fill, drain) = self.random.pick(&[(4, 1), (1, 4), (1, 1)]);
+            for _ in 0..self.random.from_to(1, 80) {
+                let action = self.choose(fill, drain);
+                self.act(action);
+            }
+        }
+    }
+
+    fn choose(&mut self, fill: u64, drain: u64) -> Action {
+        let part = |&(action, part): &(Action, u64)| match action {
+            Action::Put => part * fill,
+            Action::Next => part * drain,
+            _ => part,
+        };
+        let mut left = self.random.below(self.shape.parts.iter().map(part).sum());
+        for entry in self.shape.parts {
+            if left < part(entry) {
+                return entry.0;
+            }
+            left -= part(entry);
+        }
+        Action::Next
+    }
+
+    fn act(&mut self, action: Action) {
+        match action {
+            Action::Open => self.open(),
+            Action::Put => self.put(),
+            Action::Replug => self.replug(),
+            Action::Damage => self.damage(),
+            Action::Mislent => self.mislent(),
+            Action::Close | Action::Next | Action::Ask | Action::Stale | Action::Bad | Action::Apart | Action::Start => {
+                let call = self.single(action);
+                self.push(call);
+            }
+        }
+    }
+
+    /// Adds the call and makes it on the history's own scheduler.
+    fn push(&mut self, call: Call) {
+        self.steps.push(Step::Call(call));
+        if call == Call::Start {
+            (self.now, self.sound) = (Scheduler::start(), true);
+        } else if self.sound {
+            let accepted = state_call(&mut self.now, &call).is_ok();
+            if let (Call::Close { slot, ticket }, true) = (call, accepted) {
+                self.old.push((slot, ticket));
+            }
+        }
+    }
+
+    /// A held channel's slot and present ticket; slot 0 with its last ticket where none is held.
+    fn held(&mut self, wanted: impl Fn(usize) -> bool) -> (u32, u32) {
+        let is_held = |slot: &usize| self.now.channels[*slot].kind != Kind::Free;
+        let mut slots: Vec<usize> = (0..SLOTS).filter(is_held).collect();
+        if slots.iter().any(|&slot| wanted(self.now.channels[slot].records.len())) && !self.random.chance(1, 16) {
+            slots.retain(|&slot| wanted(self.now.channels[slot].records.len()));
+        }
+        let slot = if slots.is_empty() { 0 } else { self.random.pick(&slots) };
+        (slot as u32, self.now.channels[slot].ticket as u32)
+    }
+
+    fn open(&mut self) {
+        let held = self.now.channels.iter().filter(|channel| channel.kind != Kind::Free).count() as u64;
+        if held < self.shape.channels || self.random.chance(1, 20) {
+            let weight = (self.shape.weight)(&mut self.random);
+            self.push(Call::Open { weight });
+        }
+    }
+
+    fn put(&mut self) {
+        let deep = self.shape.deep;
+        let (slot, ticket) = self.held(|waiting| waiting < deep);
+        let length = (self.shape.length)(&mut self.random);
+        let reference = self.reference();
+        self.push(Call::Put { slot, ticket, length, reference });
+    }
+
+    fn reference(&mut self) -> u32 {
+        if self.random.chance(1, 8) {
+            self.random.pick(&EDGES)
+        } else {
+            self.random.number() as u32
+        }
+    }
+
+    /// A call as the shape's calls are.
+    fn single(&mut self, action: Action) -> Call {
+        let (slot, ticket) = self.held(|_| true);
+        match action {
+            Action::Open => Call::Open { weight: (self.shape.weight)(&mut self.random) },
+            Action::Put => Call::Put { slot, ticket, length: (self.shape.length)(&mut self.random), reference: self.reference() },
+            Action::Close => Call::Close { slot, ticket },
+            Action::Ask => Call::Ask { slot, ticket },
+            Action::Stale => self.stale(),
+            Action::Bad => self.bad(),
+            Action::Apart => self.apart(),
+            Action::Start => Call::Start,
+            _ => Call::Next,
+        }
+    }
+
+    fn on_channel(&mut self, slot: u32, ticket: u32) -> Call {
+        match self.random.below(3) {
+            0 => Call::Put { slot, ticket, length: (self.shape.length)(&mut self.random), reference: self.reference() },
+            1 => Call::Close { slot, ticket },
+            _ => Call::Ask { slot, ticket },
+        }
+    }
+
+    fn stale(&mut self) -> Call {
+        let slot = self.random.below(SLOTS as u64) as u32;
+        let ticket = self.now.channels[slot as usize].ticket as u32;
+        let (slot, ticket) = match self.random.below(4) {
+            0 | 1 if !self.old.is_empty() => self.random.pick(&self.old),
+            2 => (
+                slot,
+                self.random.pick(&[ticket.wrapping_sub(1), ticket.wrapping_add(1), ticket, 0, ticket ^ 0x0100, ticket ^ 0x8000_0000]),
+            ),
+            _ => {
+                let (slot, ticket) = self.held(|_| true);
+                (slot, self.random.pick(&[ticket.wrapping_sub(1), ticket.wrapping_add(1), 0, u32::MAX, ticket ^ 0x0001_0000]))
+            }
+        };
+        self.on_channel(slot, ticket)
+    }
+
+    fn bad(&mut self) -> Call {
+        // Half of them on the fullest channels, where another rule refuses too.
+        let fullest = self.now.channels.iter().map(|channel| channel.records.len()).max().unwrap_or(0);
+        let least = self.random.pick(&[0, fullest]);
+        let (slot, ticket) = self.held(|waiting| waiting >= least);
+        let reference = self.reference();
+        match self.random.below(5) {
+            0 => Call::Open { weight: self.random.pick(&BAD_WEIGHTS) },
+            1 => Call::Put { slot, ticket, length: self.random.pick(&BAD_LENGTHS), reference },
+            // Two things wrong at once: the order of checks shows.
+            2 => {
+                let (slot, ticket) = (self.random.pick(&[slot, 64, 63]), self.random.pick(&[ticket, 0, u32::MAX]));
+                Call::Put { slot, ticket, length: self.random.pick(&BAD_LENGTHS), reference }
+            }
+            _ => {
+                let (slot, ticket) = (self.random.pick(&BAD_SLOTS), self.random.pick(&[ticket, 0, 1, u32::MAX]));
+                self.on_channel(slot, ticket)
+            }
+        }
+    }
+
+    fn apart(&mut self) -> Call {
+        if self.random.chance(1, 2) {
+            let order = self.random.pick(&[0, 1, 2, 3, 4, 8, 11, 12, 12, 13, 31, 32, 64, u32::MAX]);
+            let end = 1u64 << order.min(12);
+            let random_position = self.random.below(end);
+            let position = self.random.pick(&[0, 1, end - 1, end, end / 2, end + 1, u64::from(u32::MAX), random_position]);
+            return Call::Term { order, position: position as u32 };
+        }
+        let mut number = |weight: bool| match self.random.below(3) {
+            0 if weight => self.random.pick(&[0, 4_096, 1, 4_095, u32::MAX]),
+            1 if !weight => self.random.pick(&EDGES),
+            _ => self.random.from_to(1, 4_095) as u32,
+        };
+        Call::Lead { w1: number(true), v1: number(false), w2: number(true), v2: number(false) }
+    }
+
+    fn replug(&mut self) {
+        let (slot, ticket) = self.held(|_| true);
+        self.push(Call::Close { slot, ticket });
+        let drain = self.random.chance(2, 3);
+        for _ in 0..40 {
+            if drain && self.now.channels[slot as usize].kind == Kind::Closing {
+                self.push(Call::Next);
+            }
+        }
+        let weight = (self.shape.weight)(&mut self.random);
+        self.push(Call::Open { weight });
+        for _ in 0..self.random.from_to(1, 3) {
+            let call = self.on_channel(slot, ticket);
+            self.push(call);
+        }
+    }
+
+    /// Any call of the shape's kind that takes a state.
+    fn any_call(&mut self) -> Call {
+        let action = self.random.pick(&[Action::Open, Action::Put, Action::Close, Action::Next, Action::Ask, Action::Stale, Action::Bad]);
+        self.single(action)
+    }
+
+    fn damage(&mut self) {
+        let bytes = layout::to_bytes(&self.now);
+        let place = match self.random.below(3) {
+            0 => self.random.below(896),
+            1 => self.random.from_to(832, 846),
+            _ => self.random.below(layout::LENGTH as u64),
+        } as usize;
+        let flip = if self.random.chance(1, 2) { 1 << self.random.below(8) } else { self.random.from_to(1, 255) as u8 };
+        let mut damaged = bytes;
+        damaged[place] ^= flip;
+        self.steps.push(Step::Damage { place, flip });
+        match layout::sound_from_bytes(&damaged) {
+            Some(scheduler) => self.now = scheduler,
+            None => {
+                self.sound = false;
+                for _ in 0..self.random.from_to(1, 3) {
+                    let call = self.any_call();
+                    self.push(call);
+                }
+                self.steps.push(Step::Damage { place, flip });
+                self.sound = true;
+            }
+        }
+    }
+
+    fn mislent(&mut self) {
+        let call = match self.random.below(8) {
+            0 => Call::Start,
+            1 => self.apart(),
+            _ => self.any_call(),
+        };
+        let right = call.answer_length();
+        let state_lengths = [layout::LENGTH, 0, 1, 64, 7_039, 7_041, 7_104, 14_080];
+        let answer_lengths = [right, 0, 1, right.saturating_sub(1), right + 1, right + 4, 2 * right, 64];
+        // One of the two is often right, and never both.
+        let (mut state_length, mut answer_length) = (self.random.pick(&state_lengths), self.random.pick(&answer_lengths));
+        match self.random.below(3) {
+            0 if call.takes_answer() => (state_length, answer_length) = (layout::LENGTH, self.random.pick(&answer_lengths[1..])),
+            1 if call.takes_state() => (state_length, answer_length) = (self.random.pick(&state_lengths[1..]), right),
+            _ => {}
+        }
+        let answer_is_wrong = call.takes_answer() && answer_length != right;
+        let state_is_wrong = call.takes_state() && state_length != layout::LENGTH;
+        if answer_is_wrong || state_is_wrong {
+            self.steps.push(Step::Mislent { call, state_length, answer_length });
+        } else {
+            self.push(call);
+        }
+    }
+}

@@ -1,0 +1,106 @@
+//! Calls, and histories of calls on one lent memory.
+
+use std::fmt;
+
+#[derive(Clone, Copy, Debug, PartialEq, Eq)]
+pub enum Call {
+    Start,
+    Open { weight: u32 },
+    Put { slot: u32, ticket: u32, length: u32, reference: u32 },
+    Close { slot: u32, ticket: u32 },
+    Next,
+    Ask { slot: u32, ticket: u32 },
+    Lead { w1: u32, v1: u32, w2: u32, v2: u32 },
+    Term { order: u32, position: u32 },
+}
+
+impl Call {
+    /// The length of the call's answer buffer; Start has none.
+    pub fn answer_length(&self) -> usize {
+        match self {
+            Call::Start => 0,
+            Call::Close { .. } | Call::Term { .. } => 4,
+            Call::Open { .. } | Call::Put { .. } | Call::Lead { .. } => 8,
+            Call::Ask { .. } => 16,
+            Call::Next => 28,
+        }
+    }
+
+    pub fn takes_state(&self) -> bool {
+        !matches!(self, Call::Lead { .. } | Call::Term { .. })
+    }
+
+    pub fn takes_answer(&self) -> bool {
+        !matches!(self, Call::Start)
+    }
+}
+
+/// As a line of the command program `lift`; the calls that it does not have are comments.
+impl fmt::Display for Call {
+    fn fmt(&self, out: &mut fmt::Formatter) -> fmt::Result {
+        match self {
+            Call::Start => write!(out, "# start"),
+            Call::Open { weight } => write!(out, "O {weight}"),
+            Call::Put { slot, ticket, length, reference } => write!(out, "P {slot} {ticket} {length} {reference}"),
+            Call::Close { slot, ticket } => write!(out, "C {slot} {ticket}"),
+            Call::Next => write!(out, "N"),
+            Call::Ask { slot, ticket } => write!(out, "# ask {slot} {ticket}"),
+            Call::Lead { w1, v1, w2, v2 } => write!(out, "# lead {w1} {v1} {w2} {v2}"),
+            Call::Term { order, position } => write!(out, "# term {order} {position}"),
+        }
+    }
+}
+
+/// One step of a history.
+#[derive(Clone, Copy, Debug, PartialEq, Eq)]
+pub enum Step {
+    Call(Call),
+    /// The call with other lengths of state and answer.
+    Mislent {
+        call: Call,
+        state_length: usize,
+        answer_length: usize,
+    },
+    /// No call: a byte of the lent memory is changed from outside.
+    Damage {
+        place: usize,
+        flip: u8,
+    },
+}
+
+impl fmt::Display for Step {
+    fn fmt(&self, out: &mut fmt::Formatter) -> fmt::Result {
+        match self {
+            Step::Call(call) => write!(out, "{call}"),
+            Step::Mislent { call, state_length, answer_length } => {
+                write!(out, "# with {state_length} bytes of state and {answer_length} of answer: {call}")
+            }
+            Step::Damage { place, flip } => write!(out, "# byte {place} of the memory is changed by exclusive or with {flip}"),
+        }
+    }
+}
+
+/// Steps on one lent memory, each given the bytes that the step before it left.
+#[derive(Clone, Debug)]
+pub struct History {
+    pub seed: u64,
+    pub shape: &'static str,
+    /// The bytes at the beginning, sound or not.
+    pub memory: Vec<u8>,
+    pub steps: Vec<Step>,
+}
+
+impl fmt::Display for History {
+    fn fmt(&self, out: &mut fmt::Formatter) -> fmt::Result {
+        for (line, bytes) in self.memory.chunks(64).enumerate() {
+            if bytes.iter().any(|&byte| byte != 0) {
+                let hexadecimal: String = bytes.iter().map(|byte| format!("{byte:02x}")).collect();
+                writeln!(out, "# memory from byte {}: {hexadecimal}", 64 * line)?;
+            }
+        }
+        for step in &self.steps {
+            writeln!(out, "{step}")?;
+        }
+        Ok(())
+    }
+}

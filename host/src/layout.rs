@@ -1,0 +1,188 @@
+//! The lent memory: 7,040 bytes, as docs/LAYOUT.md gives them.
+//!
+//! The writer goes by the table of fields, the reader by lines of 64 bytes, so that a slip in one shows against the other.
+
+use crate::scheduler::{Channel, Kind, Record, Scan, Scheduler, SLOTS};
+
+pub const LENGTH: usize = 7_040;
+/// Places for records, of all channels together.
+pub const PLACES: usize = 1_024;
+
+/// "byte j of lane i of a field" stands at start + lanes * j + i.
+struct Field {
+    name: &'static str,
+    start: usize,
+    lanes: usize,
+    width: usize,
+}
+
+const fn field(name: &'static str, start: usize, lanes: usize, width: usize) -> Field {
+    Field { name, start, lanes, width }
+}
+
+const ROWS: Field = field("rows", 0, 64, 1);
+const KIND: Field = field("kind", 64, 64, 1);
+const WAITING: Field = field("waiting", 128, 64, 1);
+const TICKET: Field = field("ticket", 192, 64, 4);
+const WEIGHT: Field = field("weight", 448, 64, 2);
+const DEFICIT: Field = field("deficit", 576, 64, 2);
+const NEXT_SERIAL: Field = field("next serial", 704, 64, 2);
+const ROW_COUNT: Field = field("number of rows", 832, 1, 1);
+const ORDER: Field = field("order", 833, 1, 1);
+const POSITION: Field = field("position", 834, 1, 2);
+const COLUMN: Field = field("column", 836, 1, 1);
+const TO_VISIT: Field = field("slots to visit", 837, 1, 8);
+const VISIT: Field = field("visit", 845, 1, 1);
+const NOTHING: Field = field("nothing", 846, 50, 1);
+const LENGTHS: Field = field("length", 896, 1_024, 2);
+const REFERENCES: Field = field("reference", 2_944, 1_024, 4);
+
+const FIELDS: [&Field; 16] = [
+    &ROWS,
+    &KIND,
+    &WAITING,
+    &TICKET,
+    &WEIGHT,
+    &DEFICIT,
+    &NEXT_SERIAL,
+    &ROW_COUNT,
+    &ORDER,
+    &POSITION,
+    &COLUMN,
+    &TO_VISIT,
+    &VISIT,
+    &NOTHING,
+    &LENGTHS,
+    &REFERENCES,
+];
+
+impl Field {
+    /// Writes the number's lowest bytes; a lane that the field does not have is left out.
+    fn write(&self, bytes: &mut [u8], lane: usize, number: u64) {
+        if lane < self.lanes {
+            for j in 0..self.width {
+                bytes[self.start + self.lanes * j + lane] = (number >> (8 * j)) as u8;
+            }
+        }
+    }
+}
+
+/// What stands at a place of the memory, in words.
+pub fn name_of(place: usize) -> String {
+    for field in FIELDS {
+        if place >= field.start && place < field.start + field.lanes * field.width {
+            let (byte, lane) = ((place - field.start) / field.lanes, (place - field.start) % field.lanes);
+            return format!("{}, lane {lane}, byte {byte}", field.name);
+        }
+    }
+    "outside the memory".to_string()
+}
+
+/// The memory of a state.
+pub fn to_bytes(scheduler: &Scheduler) -> Vec<u8> {
+    let mut bytes = vec![0; LENGTH];
+    write(scheduler, &mut bytes);
+    bytes
+}
+
+/// Writes the memory of a state over 7,040 bytes of any content.
+pub fn write(scheduler: &Scheduler, bytes: &mut [u8]) {
+    bytes.fill(0);
+    let mut place = 0;
+    for (slot, channel) in scheduler.channels.iter().enumerate() {
+        write_channel(channel, slot, bytes);
+        for record in &channel.records {
+            LENGTHS.write(bytes, place, record.length);
+            REFERENCES.write(bytes, place, record.reference);
+            place += 1;
+        }
+    }
+    for (lane, &slot) in scheduler.rows.iter().enumerate() {
+        ROWS.write(bytes, lane, slot as u64);
+    }
+    ROW_COUNT.write(bytes, 0, scheduler.rows.len() as u64);
+    ORDER.write(bytes, 0, scheduler.order);
+    let scan = &scheduler.scan;
+    POSITION.write(bytes, 0, scan.position);
+    COLUMN.write(bytes, 0, scan.column);
+    TO_VISIT.write(bytes, 0, scan.to_visit.iter().fold(0, |mask, &slot| mask | 1 << (slot % SLOTS)));
+    VISIT.write(bytes, 0, scan.visit.map_or(0, |slot| slot as u64 + 1));
+}
+
+fn write_channel(channel: &Channel, slot: usize, bytes: &mut [u8]) {
+    let kind = match channel.kind {
+        Kind::Free => 0,
+        Kind::Open => 1,
+        Kind::Closing => 2,
+    };
+    KIND.write(bytes, slot, kind);
+    WAITING.write(bytes, slot, channel.records.len() as u64);
+    TICKET.write(bytes, slot, channel.ticket);
+    WEIGHT.write(bytes, slot, channel.weight);
+    DEFICIT.write(bytes, slot, channel.deficit);
+    NEXT_SERIAL.write(bytes, slot, channel.next_serial);
+}
+
+/// The state that a memory stands for, sound or not. None for another length and where no state can be meant: a kind above 2,
+/// more than 64 rows, a visit above 64, more records than places.
+pub fn from_bytes(bytes: &[u8]) -> Option<Scheduler> {
+    if bytes.len() != LENGTH {
+        return None;
+    }
+    let line = |number: usize| &bytes[64 * number..64 * (number + 1)];
+    let of_slot =
+        |first: usize, lines: usize, slot: usize| (0..lines).rev().fold(0u64, |number, j| number * 256 + u64::from(line(first + j)[slot]));
+    let mut channels = Vec::with_capacity(SLOTS);
+    let mut place = 0;
+    for slot in 0..SLOTS {
+        let kind = match line(1)[slot] {
+            0 => Kind::Free,
+            1 => Kind::Open,
+            2 => Kind::Closing,
+            _ => return None,
+        };
+        let waiting = usize::from(line(2)[slot]);
+        let (ticket, weight) = (of_slot(3, 4, slot), of_slot(7, 2, slot));
+        let (deficit, next_serial) = (of_slot(9, 2, slot), of_slot(11, 2, slot));
+        let records = (place..place + waiting).map(|at| record(bytes, at)).collect::<Option<_>>()?;
+        place += waiting;
+        channels.push(Channel { kind, ticket, weight, deficit, next_serial, records });
+    }
+    let rows = line(0).get(..usize::from(line(13)[0]))?.iter().map(|&slot| usize::from(slot)).collect();
+    Some(Scheduler { channels, rows, order: u64::from(line(13)[1]), scan: scan(line(13))? })
+}
+
+/// The record at a place of the run: a byte in each of six planes of 1,024.
+fn record(bytes: &[u8], place: usize) -> Option<Record> {
+    if place >= PLACES {
+        return None;
+    }
+    let planes = &bytes[14 * 64..];
+    let plane = |number: usize| u64::from(planes[1_024 * number + place]);
+    let length = plane(0) + 256 * plane(1);
+    let reference = plane(2) + 256 * (plane(3) + 256 * (plane(4) + 256 * plane(5)));
+    Some(Record { length, reference })
+}
+
+/// The scan point in its line: position at 2 and 3, column at 4, the list at 5 to 12, the visit at 13.
+fn scan(line: &[u8]) -> Option<Scan> {
+    let position = u64::from(line[2]) + 256 * u64::from(line[3]);
+    let to_visit = (0..SLOTS).filter(|slot| line[5 + slot / 8] >> (slot % 8) & 1 == 1).collect();
+    let visit = match usize::from(line[13]) {
+        0 => None,
+        number if number <= SLOTS => Some(number - 1),
+        _ => return None,
+    };
+    Some(Scan { position, column: u64::from(line[4]), to_visit, visit })
+}
+
+/// The sound state whose memory this is, if it is one's: the length is right, it decodes, the state is sound, and writing it again gives
+/// the same bytes ("bytes that stand for nothing are 0").
+pub fn sound_from_bytes(bytes: &[u8]) -> Option<Scheduler> {
+    let scheduler = from_bytes(bytes)?;
+    (scheduler.sound() && to_bytes(&scheduler) == bytes).then_some(scheduler)
+}
+
+pub fn is_sound_memory(bytes: &[u8]) -> bool {
+    sound_from_bytes(bytes).is_some()
+}

@@ -1,0 +1,32 @@
+//! The scheduler's C entries seen from Rust.
+//!
+//! - [`driver`] (feature `linked`): the exported entries and a safe wrapper for users.
+//! - [`scheduler`], [`steps`], [`sound`], [`spread`], [`answers`]: an independent scheduler, written from document 01 over plain
+//!   structures.
+//! - [`layout`]: the lent memory, written from and read into that scheduler; [`check`]: the same question asked record by record.
+//! - [`engine`], [`model`], [`history`], [`compare`], [`shrink`]: an engine under test is run beside the independent scheduler, call by
+//!   call, and every byte is compared.
+//! - [`random`], [`states`], [`damage`], [`shapes`], [`generate`]: what the compared runs are fed with.
+//! - [`lift`], [`texts`]: the command program's text, from input bytes to output bytes, and texts to compare a real `lift` with.
+
+pub mod answers;
+pub mod check;
+pub mod compare;
+pub mod damage;
+#[cfg(feature = "linked")]
+pub mod driver;
+pub mod engine;
+pub mod generate;
+pub mod history;
+pub mod layout;
+pub mod lift;
+pub mod model;
+pub mod random;
+pub mod scheduler;
+pub mod shapes;
+pub mod shrink;
+pub mod sound;
+pub mod spread;
+pub mod states;
+pub mod steps;
+pub mod texts;

@@ -1,0 +1,218 @@
+//! An independent scheduler, written from document 01 over plain structures: no byte layout, no code shared with the engine under test.
+//!
+//! The numbers are wider than the rules allow, so that a state that breaks a rule can be held too; [`Scheduler::sound`] tells them apart.
+
+use std::collections::{BTreeSet, VecDeque};
+
+use crate::answers::{Added, Closed, Opened, Refusal, Sent, Standing, Told};
+
+pub const SLOTS: usize = 64;
+pub const LAST_TICKET: u64 = 4_294_967_295;
+pub const LARGEST_WEIGHT: u64 = 4_095;
+pub const COLUMNS: u64 = 12;
+pub const LONGEST: u64 = 1_024;
+pub const MOST_WAITING: usize = 16;
+pub const GRANT: u64 = 1_024;
+/// Serials are counted modulo this: 65,535 is followed by 0.
+pub const SERIALS: u64 = 65_536;
+
+#[derive(Clone, Copy, Debug, PartialEq, Eq)]
+pub enum Kind {
+    Free,
+    Open,
+    Closing,
+}
+
+#[derive(Clone, Copy, Debug, PartialEq, Eq)]
+pub struct Record {
+    pub length: u64,
+    pub reference: u64,
+}
+
+/// What the state holds for one slot.
+#[derive(Clone, Debug, PartialEq, Eq)]
+pub struct Channel {
+    pub kind: Kind,
+    pub ticket: u64,
+    pub weight: u64,
+    pub deficit: u64,
+    pub next_serial: u64,
+    /// Oldest first.
+    pub records: VecDeque<Record>,
+}
+
+/// "The scan point".
+#[derive(Clone, Debug, PartialEq, Eq)]
+pub struct Scan {
+    /// P, the position of the last term taken.
+    pub position: u64,
+    /// The noted column.
+    pub column: u64,
+    pub to_visit: BTreeSet<usize>,
+    pub visit: Option<usize>,
+}
+
+#[derive(Clone, Debug, PartialEq, Eq)]
+pub struct Scheduler {
+    /// One for each slot.
+    pub channels: Vec<Channel>,
+    /// The slots with a record waiting, in the order in which they joined.
+    pub rows: Vec<usize>,
+    pub order: u64,
+    pub scan: Scan,
+}
+
+impl Channel {
+    pub fn fresh() -> Channel {
+        Channel { kind: Kind::Free, ticket: 0, weight: 0, deficit: 0, next_serial: 0, records: VecDeque::new() }
+    }
+
+    /// The slot is free again; its last ticket stays.
+    pub fn free(&mut self) {
+        *self = Channel { ticket: self.ticket, ..Channel::fresh() };
+    }
+
+    /// Serials of waiting records are not held: the head's lies the number waiting below the next one.
+    fn head_serial(&self) -> u64 {
+        (self.next_serial + SERIALS - self.records.len() as u64) % SERIALS
+    }
+}
+
+/// The calls. The first check of each is 10; those ending in `_sound` are the same calls on a state already known to be sound.
+impl Scheduler {
+    /// "the fresh state: all free, all zeros".
+    pub fn start() -> Scheduler {
+        Scheduler {
+            channels: vec![Channel::fresh(); SLOTS],
+            rows: Vec::new(),
+            order: 0,
+            scan: Scan { position: 0, column: 0, to_visit: BTreeSet::new(), visit: None },
+        }
+    }
+
+    pub fn open(&mut self, weight: u32) -> Result<Opened, Refusal> {
+        self.check()?;
+        self.open_sound(weight)
+    }
+
+    pub fn put(&mut self, slot: u32, ticket: u32, length: u32, reference: u32) -> Result<Added, Refusal> {
+        self.check()?;
+        self.put_sound(slot, ticket, length, reference)
+    }
+
+    pub fn close(&mut self, slot: u32, ticket: u32) -> Result<Closed, Refusal> {
+        self.check()?;
+        self.close_sound(slot, ticket)
+    }
+
+    #[allow(clippy::should_implement_trait)]
+    pub fn next(&mut self) -> Result<Sent, Refusal> {
+        self.check()?;
+        self.next_sound()
+    }
+
+    pub fn ask(&self, slot: u32, ticket: u32) -> Result<Told, Refusal> {
+        self.check()?;
+        self.ask_sound(slot, ticket)
+    }
+
+    fn check(&self) -> Result<(), Refusal> {
+        if self.sound() {
+            Ok(())
+        } else {
+            Err(Refusal::Unsound)
+        }
+    }
+
+    pub fn open_sound(&mut self, weight: u32) -> Result<Opened, Refusal> {
+        let weight = u64::from(weight);
+        if weight == 0 || weight > LARGEST_WEIGHT {
+            return Err(Refusal::BadWeight);
+        }
+        let can_open = |channel: &Channel| channel.kind == Kind::Free && channel.ticket != LAST_TICKET;
+        let slot = self.channels.iter().position(can_open).ok_or(Refusal::NoSlot)?;
+        let channel = &mut self.channels[slot];
+        channel.kind = Kind::Open;
+        channel.ticket += 1;
+        channel.weight = weight;
+        channel.deficit = 0;
+        channel.next_serial = 0;
+        Ok(Opened { slot: slot as u32, ticket: channel.ticket as u32 })
+    }
+
+    pub fn put_sound(&mut self, slot: u32, ticket: u32, length: u32, reference: u32) -> Result<Added, Refusal> {
+        let slot = self.look_up(slot, ticket)?;
+        let channel = &mut self.channels[slot];
+        if channel.kind == Kind::Closing {
+            return Err(Refusal::IsClosing);
+        }
+        let length = u64::from(length);
+        if length == 0 || length > LONGEST {
+            return Err(Refusal::BadLength);
+        }
+        if channel.records.len() >= MOST_WAITING {
+            return Err(Refusal::Full);
+        }
+        let serial = channel.next_serial;
+        channel.next_serial = (serial + 1) % SERIALS;
+        channel.records.push_back(Record { length, reference: u64::from(reference) });
+        let waiting = channel.records.len();
+        if waiting == 1 {
+            channel.deficit = 0;
+            self.rows.push(slot);
+            self.order = self.order_of_rows();
+        }
+        Ok(Added { serial: serial as u32, waiting: waiting as u32 })
+    }
+
+    pub fn close_sound(&mut self, slot: u32, ticket: u32) -> Result<Closed, Refusal> {
+        let slot = self.look_up(slot, ticket)?;
+        let channel = &mut self.channels[slot];
+        if channel.kind == Kind::Closing {
+            return Err(Refusal::IsClosing);
+        }
+        if channel.records.is_empty() {
+            channel.free();
+            Ok(Closed::Freed)
+        } else {
+            channel.kind = Kind::Closing;
+            Ok(Closed::Draining)
+        }
+    }
+
+    pub fn next_sound(&mut self) -> Result<Sent, Refusal> {
+        if self.rows.is_empty() {
+            return Err(Refusal::NothingWaits);
+        }
+        let (slot, started, terms) = self.choose()?;
+        let ticket = self.channels[slot].ticket as u32;
+        let serial = self.channels[slot].head_serial() as u32;
+        let record = self.send(slot);
+        self.settle(slot);
+        let (length, reference) = (record.length as u32, record.reference as u32);
+        Ok(Sent { slot: slot as u32, ticket, length, reference, serial, started, terms })
+    }
+
+    pub fn ask_sound(&self, slot: u32, ticket: u32) -> Result<Told, Refusal> {
+        let channel = &self.channels[self.look_up(slot, ticket)?];
+        Ok(Told {
+            standing: if channel.kind == Kind::Closing { Standing::Closing } else { Standing::Open },
+            weight: channel.weight as u32,
+            deficit: channel.deficit as u32,
+            waiting: channel.records.len() as u32,
+        })
+    }
+
+    /// The slot of a held channel whose present ticket this is.
+    fn look_up(&self, slot: u32, ticket: u32) -> Result<usize, Refusal> {
+        let slot = slot as usize;
+        if slot >= SLOTS {
+            return Err(Refusal::SlotAbove);
+        }
+        let channel = &self.channels[slot];
+        if channel.kind == Kind::Free || channel.ticket != u64::from(ticket) {
+            return Err(Refusal::NotPresent);
+        }
+        Ok(slot)
+    }
+}

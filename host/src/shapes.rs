@@ -1,0 +1,170 @@
+//! The shapes of generated histories: where one begins, what it is fed with, and how often each action comes.
+
+use crate::random::Random;
+use crate::scheduler::Scheduler;
+use crate::states;
+
+/// What a history does next. Most are one call; some are a few calls that belong together.
+#[derive(Clone, Copy, Debug, PartialEq, Eq)]
+pub enum Action {
+    Open,
+    Put,
+    Close,
+    Next,
+    Ask,
+    /// Close, drain, open again, then late calls with the old ticket.
+    Replug,
+    /// A call with a ticket that is not the present one.
+    Stale,
+    /// A call with numbers out of range.
+    Bad,
+    /// Lead or term.
+    Apart,
+    /// A byte of the memory is changed, some calls are made, and it is changed back if it made the memory unsound.
+    Damage,
+    /// A call with other lengths of state or answer.
+    Mislent,
+    Start,
+}
+
+pub struct Shape {
+    pub name: &'static str,
+    pub begin: fn(&mut Random) -> Scheduler,
+    /// Channels are opened up to this number, and seldom beyond it.
+    pub channels: u64,
+    /// Records are added to channels with fewer than this number waiting, and seldom to others.
+    pub deep: usize,
+    pub weight: fn(&mut Random) -> u32,
+    pub length: fn(&mut Random) -> u32,
+    /// How often each action comes, against the others.
+    pub parts: &'static [(Action, u64)],
+}
+
+fn fresh(_: &mut Random) -> Scheduler {
+    Scheduler::start()
+}
+
+fn any_state(random: &mut Random) -> Scheduler {
+    let most = random.pick(&[2, 5, 20, 64]);
+    states::any_sound(random, most)
+}
+
+fn unreached(random: &mut Random) -> Scheduler {
+    let mut list = states::unreached();
+    let number = random.below(list.len() as u64) as usize;
+    list.swap_remove(number).1
+}
+
+fn any_weight(random: &mut Random) -> u32 {
+    match random.below(4) {
+        0 => random.from_to(1, 8) as u32,
+        1 => random.from_to(1, 4_095) as u32,
+        _ => weight_at_edge(random),
+    }
+}
+
+/// Powers of two and their neighbours.
+fn weight_at_edge(random: &mut Random) -> u32 {
+    let power = 1i64 << random.below(13);
+    let near = power + random.from_to(0, 2) as i64 - 1;
+    near.clamp(1, 4_095) as u32
+}
+
+fn small_weight(random: &mut Random) -> u32 {
+    random.from_to(1, 7) as u32
+}
+
+/// Light and heavy, little between: the order moves far.
+fn far_weight(random: &mut Random) -> u32 {
+    random.pick(&[1, 1, 2, 3, 5, 64, 300, 2_048, 4_095])
+}
+
+fn any_length(random: &mut Random) -> u32 {
+    match random.below(3) {
+        0 => length_at_edge(random),
+        _ => random.from_to(1, 1_024) as u32,
+    }
+}
+
+fn length_at_edge(random: &mut Random) -> u32 {
+    random.pick(&[1, 2, 511, 512, 513, 1_022, 1_023, 1_024])
+}
+
+fn long(_: &mut Random) -> u32 {
+    1_024
+}
+
+/// Mostly short, so that visits stay open for some sends.
+fn short(random: &mut Random) -> u32 {
+    random.pick(&[1, 100, 200, 256, 341, 342, 512, 1_024])
+}
+
+const PLAIN: &[(Action, u64)] = &[
+    (Action::Open, 8),
+    (Action::Put, 40),
+    (Action::Close, 3),
+    (Action::Next, 40),
+    (Action::Ask, 4),
+    (Action::Stale, 2),
+    (Action::Bad, 2),
+    (Action::Apart, 2),
+];
+const STORM: &[(Action, u64)] = &[
+    (Action::Open, 10),
+    (Action::Put, 20),
+    (Action::Close, 10),
+    (Action::Next, 20),
+    (Action::Replug, 20),
+    (Action::Stale, 20),
+    (Action::Bad, 5),
+];
+const WRONG: &[(Action, u64)] =
+    &[(Action::Open, 6), (Action::Put, 20), (Action::Close, 4), (Action::Next, 20), (Action::Bad, 40), (Action::Apart, 10)];
+const HARM: &[(Action, u64)] = &[(Action::Open, 6), (Action::Put, 20), (Action::Close, 3), (Action::Next, 20), (Action::Damage, 20)];
+const LENGTHS: &[(Action, u64)] = &[(Action::Open, 6), (Action::Put, 20), (Action::Close, 3), (Action::Next, 20), (Action::Mislent, 40)];
+const ALL: &[(Action, u64)] = &[
+    (Action::Open, 10),
+    (Action::Put, 40),
+    (Action::Close, 5),
+    (Action::Next, 40),
+    (Action::Ask, 5),
+    (Action::Replug, 3),
+    (Action::Stale, 5),
+    (Action::Bad, 5),
+    (Action::Apart, 3),
+    (Action::Damage, 2),
+    (Action::Mislent, 3),
+    (Action::Start, 1),
+];
+
+const fn shape(
+    name: &'static str,
+    begin: fn(&mut Random) -> Scheduler,
+    channels: u64,
+    deep: usize,
+    parts: &'static [(Action, u64)],
+) -> Shape {
+    Shape { name, begin, channels, deep, weight: any_weight, length: any_length, parts }
+}
+
+pub const SHAPES: &[Shape] = &[
+    shape("few channels", fresh, 3, 16, PLAIN),
+    shape("many channels", fresh, 64, 3, PLAIN),
+    Shape { weight: weight_at_edge, length: long, ..shape("weights at edges", fresh, 6, 8, PLAIN) },
+    Shape { weight: small_weight, length: length_at_edge, ..shape("lengths at edges", fresh, 5, 16, PLAIN) },
+    Shape { length: short, ..shape("fill and drain", fresh, 24, 16, PLAIN) },
+    Shape { weight: small_weight, ..shape("replug storm", fresh, 5, 3, STORM) },
+    Shape { weight: far_weight, length: long, ..shape("orders rise and fall", fresh, 6, 2, PLAIN) },
+    Shape { weight: small_weight, length: long, ..shape("rows unlike slots", fresh, 12, 2, PLAIN) },
+    // Some of these have full channels, where two rules refuse.
+    shape("bad numbers", unreached, 8, 16, WRONG),
+    // More than there are slots: opening goes on when all are held.
+    shape("no slot left", fresh, 150, 2, WRONG),
+    shape("serial wrap", states::near_last_serial, 4, 16, PLAIN),
+    shape("last ticket", states::near_last_ticket, 4, 4, STORM),
+    shape("unreached states", unreached, 8, 16, PLAIN),
+    shape("any sound state", any_state, 24, 16, PLAIN),
+    shape("damage", any_state, 12, 8, HARM),
+    shape("other lengths", fresh, 6, 8, LENGTHS),
+    Shape { length: short, ..shape("everything", fresh, 16, 6, ALL) },
+];

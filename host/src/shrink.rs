@@ -1,0 +1,192 @@
+//! Makes a history that shows a difference shorter: steps are removed, openings with all that belongs to them, channels of the memory it
+//! begins with, and numbers are made plainer, as long as some difference is left.
+
+use std::collections::HashMap;
+
+use crate::compare::{run, state_call, Difference};
+use crate::engine::Engine;
+use crate::history::{Call, History, Step};
+use crate::layout;
+use crate::scheduler::{Channel, Scheduler, SLOTS};
+
+/// Steps that may be run while shrinking, so that a long history does not hold up the report.
+const STEPS: usize = 400_000;
+/// Histories up to this length are tried without each two of their steps.
+const SHORT: usize = 40;
+
+/// The shortest history found and its difference, which shows at its last step.
+pub fn shrink<E: Engine + ?Sized>(engine: &mut E, history: History, difference: Difference) -> (History, Difference) {
+    let mut search = Search { engine, left: STEPS, best: history, difference };
+    search.best.steps.truncate(search.difference.step + 1);
+    search.keep_if_it_differs(History { memory: vec![0; layout::LENGTH], ..search.best.clone() });
+    search.remove_steps();
+    search.remove_channels();
+    loop {
+        let before = search.best.steps.len();
+        search.remove_openings();
+        search.make_plainer();
+        search.remove_steps();
+        search.remove_pairs();
+        if search.best.steps.len() == before {
+            return (search.best, search.difference);
+        }
+    }
+}
+
+struct Search<'e, E: ?Sized> {
+    engine: &'e mut E,
+    left: usize,
+    best: History,
+    difference: Difference,
+}
+
+impl<E: Engine + ?Sized> Search<'_, E> {
+    fn keep_if_it_differs(&mut self, mut candidate: History) -> bool {
+        if self.left < candidate.steps.len() {
+            return false;
+        }
+        self.left -= candidate.steps.len();
+        match run(self.engine, &candidate) {
+            Ok(_) => false,
+            Err(difference) => {
+                candidate.steps.truncate(difference.step + 1);
+                (self.best, self.difference) = (candidate, difference);
+                true
+            }
+        }
+    }
+
+    /// Removes runs of steps, long runs first, until no single step can go.
+    fn remove_steps(&mut self) {
+        let mut size = self.best.steps.len().div_ceil(2);
+        while size > 0 {
+            let (mut at, mut removed) = (0, false);
+            while at < self.best.steps.len() {
+                let mut candidate = self.best.clone();
+                candidate.steps.drain(at..(at + size).min(candidate.steps.len()));
+                if self.keep_if_it_differs(candidate) {
+                    removed = true;
+                } else {
+                    at += size;
+                }
+            }
+            size = if size == 1 && removed { 1 } else { size / 2 };
+        }
+    }
+
+    fn remove_pairs(&mut self) {
+        let mut first = 0;
+        while self.best.steps.len() <= SHORT && first < self.best.steps.len() {
+            let second = (first + 1..self.best.steps.len()).find(|&second| {
+                let mut candidate = self.best.clone();
+                candidate.steps.remove(second);
+                candidate.steps.remove(first);
+                self.keep_if_it_differs(candidate)
+            });
+            first = if second.is_some() { 0 } else { first + 1 };
+        }
+    }
+
+    /// Removes single openings; the slots and tickets of the calls that stay are those that they now have.
+    fn remove_openings(&mut self) {
+        for at in (0..self.best.steps.len()).rev() {
+            if let Some(Step::Call(Call::Open { .. })) = self.best.steps.get(at) {
+                let candidate = without_opening(&self.best, at);
+                self.keep_if_it_differs(candidate);
+            }
+        }
+    }
+
+    /// Frees the slots of a sound beginning one by one.
+    fn remove_channels(&mut self) {
+        for slot in 0..SLOTS {
+            if let Some(scheduler) = layout::sound_from_bytes(&self.best.memory) {
+                let memory = layout::to_bytes(&without_channel(scheduler, slot));
+                if memory != self.best.memory {
+                    self.keep_if_it_differs(History { memory, ..self.best.clone() });
+                }
+            }
+        }
+    }
+
+    fn make_plainer(&mut self) {
+        for at in 0..self.best.steps.len() {
+            let Some(&Step::Call(call)) = self.best.steps.get(at) else { continue };
+            plainer(call).into_iter().any(|call| {
+                let mut candidate = self.best.clone();
+                candidate.steps[at] = Step::Call(call);
+                self.keep_if_it_differs(candidate)
+            });
+        }
+    }
+}
+
+/// The same call with plainer numbers, plainest first.
+fn plainer(call: Call) -> Vec<Call> {
+    match call {
+        Call::Open { weight } => (1..weight.min(5)).map(|weight| Call::Open { weight }).collect(),
+        Call::Put { slot, ticket, length, reference } => {
+            let put = |slot, length, reference| Call::Put { slot, ticket, length, reference };
+            let plain = [put(0, 1_024, 1), put(slot, 1_024, 1), put(slot, length, 1), put(slot, 1_024, reference)];
+            plain.into_iter().take_while(|&plain| plain != call).collect()
+        }
+        Call::Close { slot, ticket } | Call::Ask { slot, ticket } if slot > 0 => vec![moved(call, (0, ticket))],
+        _ => Vec::new(),
+    }
+}
+
+/// The sound state with this slot fresh.
+fn without_channel(mut scheduler: Scheduler, slot: usize) -> Scheduler {
+    scheduler.channels[slot] = Channel::fresh();
+    scheduler.rows.retain(|&row| row != slot);
+    scheduler.scan.to_visit.remove(&slot);
+    if scheduler.scan.to_visit.is_empty() {
+        scheduler.scan.column = 0;
+    }
+    if scheduler.scan.visit == Some(slot) {
+        scheduler.scan.visit = None;
+    }
+    scheduler.order = scheduler.order_of_rows();
+    scheduler.scan.position %= 1 << scheduler.order;
+    scheduler
+}
+
+/// The history without the opening at a step and without the calls on its channel.
+fn without_opening(history: &History, at: usize) -> History {
+    let mut steps = Vec::new();
+    let begin = layout::sound_from_bytes(&history.memory).unwrap_or_else(Scheduler::start);
+    let (mut old, mut new) = (begin.clone(), begin);
+    // Slot and ticket in the old history, and what they are in the new one.
+    let mut now: HashMap<(u32, u32), Option<(u32, u32)>> = HashMap::new();
+    for (number, &step) in history.steps.iter().enumerate() {
+        let Step::Call(call) = step else {
+            steps.push(step);
+            continue;
+        };
+        let kept = match call {
+            Call::Open { .. } if number == at => None,
+            Call::Put { slot, ticket, .. } | Call::Close { slot, ticket } | Call::Ask { slot, ticket } => {
+                now.get(&(slot, ticket)).copied().unwrap_or(Some((slot, ticket))).map(|place| moved(call, place))
+            }
+            _ => Some(call),
+        };
+        let opened = state_call(&mut old, &call);
+        let opened_now = kept.map(|call| state_call(&mut new, &call));
+        if let (Call::Open { .. }, Ok(place)) = (call, opened) {
+            let place_now = opened_now.and_then(Result::ok).map(|place| (place[0], place[1]));
+            now.insert((place[0], place[1]), place_now);
+        }
+        steps.extend(kept.map(Step::Call));
+    }
+    History { steps, ..history.clone() }
+}
+
+/// The call on another channel.
+fn moved(call: Call, (slot, ticket): (u32, u32)) -> Call {
+    match call {
+        Call::Put { length, reference, .. } => Call::Put { slot, ticket, length, reference },
+        Call::Close { .. } => Call::Close { slot, ticket },
+        Call::Ask { .. } => Call::Ask { slot, ticket },
+        _ => call,
+    }
+}

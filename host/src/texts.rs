@@ -1,0 +1,110 @@
+//! Texts for the command program, and the comparison of a real `lift` with [`crate::lift`].
+
+use std::io::{self, Write};
+use std::path::Path;
+use std::process::{Command, Stdio};
+use std::thread;
+
+use crate::generate::history_of;
+use crate::history::{Call, Step};
+use crate::lift::{lift, LARGEST_INPUT};
+use crate::random::Random;
+use crate::shapes::SHAPES;
+
+/// The text of a seed: the commands of a history that begins fresh, most of them untouched, some lines of another form between them.
+pub fn text(seed: u64) -> Vec<u8> {
+    let mut random = Random::new(seed ^ 0x7465_7874);
+    let shape = &SHAPES[random.below(SHAPES.len() as u64) as usize];
+    let spoilt = random.pick(&[0, 0, 5, 100]);
+    let mut text = Vec::new();
+    for step in history_of(shape, seed).steps {
+        if let Step::Call(call @ (Call::Open { .. } | Call::Put { .. } | Call::Close { .. } | Call::Next)) = step {
+            let mut line = call.to_string().into_bytes();
+            if random.chance(spoilt, 1_000) {
+                spoil(&mut random, &mut line);
+            }
+            text.extend(line);
+            text.push(b'\n');
+        }
+    }
+    match random.below(16) {
+        0 => text.truncate(text.len().saturating_sub(1)),
+        1 => fill_up(&mut text, LARGEST_INPUT),
+        2 => fill_up(&mut text, LARGEST_INPUT + 1),
+        3 => text.clear(),
+        _ => {}
+    }
+    text
+}
+
+/// Lengthens the text by commands and empty lines to just this length.
+fn fill_up(text: &mut Vec<u8>, length: usize) {
+    while text.len() + 6 <= length {
+        text.extend(b"O 1\nN\n");
+    }
+    text.resize(length, b'\n');
+}
+
+/// Makes a line one of another form, most of the time.
+fn spoil(random: &mut Random, line: &mut Vec<u8>) {
+    let place = random.below(line.len() as u64 + 1) as usize;
+    match random.below(8) {
+        0 => line.clear(),
+        1 => line.insert(place, random.pick(b" \t\r\0+-0")),
+        2 => line.insert(place, random.number() as u8),
+        3 => line.truncate(place),
+        4 => line.push(random.pick(b" \r0\0")),
+        5 => line.extend(b" 4294967296"),
+        6 => *line = random.pick(&["O 4294967296", "O 4294967295", "C 4294967295 1", "N N", "X", "O 0", "P 0 1 1025 0", "n"]).into(),
+        _ => line.extend(b" 0"),
+    }
+}
+
+/// What the program prints for this input.
+pub fn printed(program: &Path, input: &[u8]) -> io::Result<Vec<u8>> {
+    let mut child = Command::new(program).stdin(Stdio::piped()).stdout(Stdio::piped()).spawn()?;
+    let mut stdin = child.stdin.take().ok_or(io::ErrorKind::BrokenPipe)?;
+    let input = input.to_vec();
+    // A program that stops reading early closes the pipe: what it printed decides.
+    let writer = thread::spawn(move || drop(stdin.write_all(&input)));
+    let output = child.wait_with_output()?;
+    let _ = writer.join();
+    Ok(output.stdout)
+}
+
+/// Compares the program on the texts of these seeds. The number of texts, or the shortest text found that it answers otherwise.
+pub fn compare(program: &Path, seeds: impl IntoIterator<Item = u64>) -> io::Result<Result<u64, String>> {
+    let mut count = 0;
+    for seed in seeds {
+        let input = text(seed);
+        if printed(program, &input)? != lift(&input) {
+            let input = shortest(program, input)?;
+            let (is, should) = (printed(program, &input)?, lift(&input));
+            let show = |bytes: &[u8]| bytes.escape_ascii().to_string().replace("\\n", "\\n\n");
+            return Ok(Err(format!("seed {seed}\ninput:\n{}\nprinted:\n{}\nshould be:\n{}", show(&input), show(&is), show(&should))));
+        }
+        count += 1;
+    }
+    Ok(Ok(count))
+}
+
+/// Removes runs of lines, long runs first, as long as the outputs differ.
+fn shortest(program: &Path, input: Vec<u8>) -> io::Result<Vec<u8>> {
+    let mut lines: Vec<Vec<u8>> = input.split_inclusive(|&byte| byte == b'\n').map(<[u8]>::to_vec).collect();
+    let mut size = lines.len().div_ceil(2);
+    while size > 0 {
+        let mut at = 0;
+        while at < lines.len() {
+            let mut fewer = lines.clone();
+            fewer.drain(at..(at + size).min(fewer.len()));
+            let candidate = fewer.concat();
+            if printed(program, &candidate)? != lift(&candidate) {
+                lines = fewer;
+            } else {
+                at += size;
+            }
+        }
+        size /= 2;
+    }
+    Ok(lines.concat())
+}

@@ -1,0 +1,11 @@
+//! The engine under test: the exported library with feature `linked`, else the model engine.
+
+#[cfg(feature = "linked")]
+pub fn engine() -> host::driver::Linked {
+    host::driver::Linked
+}
+
+#[cfg(not(feature = "linked"))]
+pub fn engine() -> host::model::Model {
+    host::model::Model
+}

@@ -1,0 +1,157 @@
+//! The generated histories meet the corners where schedulers go wrong, each of them many times.
+
+use std::collections::BTreeMap;
+
+use host::compare::state_call;
+use host::generate::history;
+use host::history::{Call, Step};
+use host::layout;
+use host::scheduler::{Kind, Scheduler, LAST_TICKET};
+
+type Count = BTreeMap<&'static str, u32>;
+
+/// Every corner that is looked for.
+const CORNERS: [&str; 29] = [
+    "order falls with slots to visit",
+    "P becomes 0 after a fall, with rows",
+    "P is 2^k - 1 after a fall",
+    "order rises with slots to visit",
+    "order rises in a visit",
+    "order rises at P = 2^k - 1",
+    "a row of the noted column joins in the scan",
+    "a wrap",
+    "two terms taken",
+    "no term taken for a new visit",
+    "a visit goes on after the list is empty",
+    "a visit stays open with the head equal to the deficit",
+    "a visit ends with the head one above the deficit",
+    "a visit ends with the last record",
+    "a deficit is lost with the last record",
+    "a deficit is kept for the next visit",
+    "a closing slot is freed with slots to visit",
+    "the first row to visit is not the lowest slot",
+    "the last row leaves",
+    "a serial wraps",
+    "a head's serial is from before the wrap",
+    "the last ticket is given",
+    "no slot, though some are free",
+    "no slot, all are held",
+    "6 where 7 would be given too",
+    "4 where 5 would be given too",
+    "3 where 4 would be given too",
+    "a channel is freed at once",
+    "a channel begins to drain",
+];
+
+#[test]
+fn histories_meet_every_corner() {
+    let mut count: Count = CORNERS.into_iter().map(|corner| (corner, 0)).collect();
+    let mut numbers = BTreeMap::new();
+    for seed in 0..1_500 {
+        let history = history(seed);
+        let mut now = layout::sound_from_bytes(&history.memory).unwrap();
+        for step in &history.steps {
+            match step {
+                // The rest of a history with damage is left out.
+                Step::Damage { .. } => break,
+                Step::Call(Call::Start) => now = Scheduler::start(),
+                Step::Call(call) => {
+                    let before = now.clone();
+                    let result = state_call(&mut now, call);
+                    let number = result.as_ref().map_or_else(|refusal| refusal.number(), |_| 0);
+                    *numbers.entry((name(call), number)).or_insert(0) += 1;
+                    look(&before, &now, call, &result.map_err(|refusal| refusal.number()), &mut count);
+                }
+                Step::Mislent { .. } => {}
+            }
+        }
+    }
+    println!("{count:#?}\n{numbers:#?}");
+    for (corner, times) in count {
+        assert!(times >= 20, "{corner}: {times}");
+    }
+    for (call, list) in
+        [("open", &[0, 6, 7][..]), ("put", &[0, 1, 2, 3, 4, 5]), ("close", &[0, 1, 2, 3]), ("next", &[0, 8]), ("ask", &[0, 1, 2])]
+    {
+        for &number in list {
+            assert!(numbers.get(&(call, number)).is_some_and(|&times| times >= 20), "{call} with number {number}");
+        }
+    }
+    assert!(numbers.keys().all(|&(_, number)| number != 9), "9 is never given");
+}
+
+fn name(call: &Call) -> &'static str {
+    match call {
+        Call::Open { .. } => "open",
+        Call::Put { .. } => "put",
+        Call::Close { .. } => "close",
+        Call::Next => "next",
+        Call::Ask { .. } => "ask",
+        _ => "apart",
+    }
+}
+
+fn look(before: &Scheduler, after: &Scheduler, call: &Call, result: &Result<Vec<u32>, u32>, count: &mut Count) {
+    let mut met = |corner: &'static str, holds: bool| *count.get_mut(corner).expect("a corner of the list") += u32::from(holds);
+    match (call, result) {
+        (Call::Put { slot, .. }, Ok(fields)) => look_at_put(before, after, *slot as usize, fields, &mut met),
+        (Call::Next, Ok(fields)) => look_at_next(before, after, fields, &mut met),
+        (Call::Open { .. }, Ok(fields)) => met("the last ticket is given", u64::from(fields[1]) == LAST_TICKET),
+        (Call::Open { .. }, Err(number)) => {
+            let free = before.channels.iter().filter(|channel| channel.kind == Kind::Free).count();
+            let can_open = before.channels.iter().any(|channel| channel.kind == Kind::Free && channel.ticket != LAST_TICKET);
+            met("no slot, though some are free", *number == 7 && free > 0);
+            met("no slot, all are held", *number == 7 && free == 0);
+            met("6 where 7 would be given too", *number == 6 && !can_open);
+        }
+        (Call::Put { slot, length, .. }, Err(number)) if *slot < 64 => {
+            met("4 where 5 would be given too", *number == 4 && before.channels[*slot as usize].records.len() == 16);
+            met("3 where 4 would be given too", *number == 3 && !(1..=1_024).contains(length));
+        }
+        (Call::Close { .. }, Ok(fields)) => {
+            met("a channel is freed at once", fields[0] == 1);
+            met("a channel begins to drain", fields[0] == 0);
+        }
+        _ => {}
+    }
+}
+
+fn look_at_put(before: &Scheduler, after: &Scheduler, slot: usize, fields: &[u32], met: &mut impl FnMut(&'static str, bool)) {
+    let (scan, rises) = (&before.scan, after.order > before.order && before.order > 0);
+    let joins = fields[1] == 1;
+    met("order rises with slots to visit", rises && !scan.to_visit.is_empty());
+    met("order rises in a visit", rises && scan.visit.is_some());
+    met("order rises at P = 2^k - 1", rises && scan.position == (1 << before.order) - 1);
+    let of_the_column = after.channels[slot].weight >> scan.column & 1 == 1;
+    met("a row of the noted column joins in the scan", joins && !scan.to_visit.is_empty() && of_the_column);
+    met("a serial wraps", fields[0] == 65_535);
+}
+
+fn look_at_next(before: &Scheduler, after: &Scheduler, fields: &[u32], met: &mut impl FnMut(&'static str, bool)) {
+    let slot = fields[0] as usize;
+    let (started, terms) = (fields[5] == 1, fields[6]);
+    let (was, is) = (&before.channels[slot], &after.channels[slot]);
+    let granted = was.deficit + if started { 1_024 } else { 0 };
+    let left = granted - u64::from(fields[2]);
+    let falls = after.order < before.order && after.order > 0;
+    let listed = !after.scan.to_visit.is_empty();
+    met("order falls with slots to visit", falls && listed);
+    met("P becomes 0 after a fall, with rows", falls && after.scan.position == 0 && (before.scan.position > 0 || terms > 0));
+    met("P is 2^k - 1 after a fall", falls && after.scan.position == (1 << after.order) - 1);
+    met("a wrap", terms > 0 && before.scan.position == (1 << before.order) - 1);
+    met("two terms taken", terms == 2);
+    met("no term taken for a new visit", started && terms == 0);
+    met("a visit goes on after the list is empty", after.scan.visit.is_some() && !listed);
+    met("the last row leaves", after.rows.is_empty());
+    met("a closing slot is freed with slots to visit", was.kind == Kind::Closing && is.kind == Kind::Free && listed);
+    met("a visit ends with the last record", is.records.is_empty());
+    met("a deficit is lost with the last record", is.records.is_empty() && left > 0);
+    met("a head's serial is from before the wrap", u64::from(fields[4]) > was.next_serial);
+    if let Some(head) = is.records.front() {
+        met("a visit stays open with the head equal to the deficit", head.length == left);
+        met("a visit ends with the head one above the deficit", head.length == left + 1);
+        met("a deficit is kept for the next visit", after.scan.visit.is_none() && left > 0);
+    }
+    let first_listed = before.scan.to_visit.first().copied();
+    met("the first row to visit is not the lowest slot", started && terms == 0 && first_listed != Some(slot));
+}

@@ -1,0 +1,127 @@
+//! Damaged memories: number 10, a zeroed answer and unchanged bytes exactly where the memory is unsound.
+
+mod common;
+
+use host::check::record_by_record;
+use host::compare::run_all;
+use host::damage::{breakages, wrong_bytes};
+use host::history::{Call, History, Step};
+use host::layout::{is_sound_memory, to_bytes, LENGTH};
+use host::random::Random;
+use host::scheduler::Scheduler;
+use host::states;
+
+/// Each call that takes a state but Start, with numbers that rich() accepts, then with numbers that some rule refuses.
+const CALLS: [Call; 10] = [
+    Call::Next,
+    Call::Open { weight: 9 },
+    Call::Put { slot: 1, ticket: 1, length: 1_024, reference: 0xffff_fffe },
+    Call::Close { slot: 1, ticket: 1 },
+    Call::Ask { slot: 3, ticket: 9 },
+    Call::Next,
+    Call::Open { weight: 0 },
+    Call::Put { slot: 64, ticket: 1, length: 0, reference: 0 },
+    Call::Close { slot: 5, ticket: 1 },
+    Call::Ask { slot: u32::MAX, ticket: 0 },
+];
+
+fn history(shape: &'static str, seed: u64, memory: Vec<u8>, calls: &[Call]) -> History {
+    History { seed, shape, memory, steps: calls.iter().map(|&call| Step::Call(call)).collect() }
+}
+
+fn compare(histories: impl IntoIterator<Item = History>) -> u64 {
+    match run_all(&mut common::engine(), histories) {
+        Ok(calls) => calls,
+        Err(report) => panic!("{report}"),
+    }
+}
+
+#[test]
+fn each_rule_broken() {
+    let mut histories = Vec::new();
+    for breakage in breakages() {
+        assert_eq!(breakage.scheduler.broken(), breakage.rules, "{}", breakage.name);
+        let memory = to_bytes(&breakage.scheduler);
+        assert!(!is_sound_memory(&memory) && !record_by_record(&memory), "{}", breakage.name);
+        histories.push(history(breakage.name, 0, memory, &CALLS));
+    }
+    for (name, memory) in wrong_bytes() {
+        assert!(!is_sound_memory(&memory) && !record_by_record(&memory), "{name}");
+        histories.push(history(name, 0, memory, &CALLS));
+    }
+    let count = histories.len();
+    assert_eq!(compare(histories), (count * CALLS.len()) as u64);
+}
+
+/// The nearest states that break nothing are served.
+#[test]
+fn unreached_states_are_served() {
+    let mut histories = Vec::new();
+    for (name, scheduler) in states::unreached() {
+        assert_eq!(scheduler.broken(), [], "{name}");
+        let memory = to_bytes(&scheduler);
+        assert!(is_sound_memory(&memory) && record_by_record(&memory), "{name}");
+        for call in CALLS {
+            histories.push(history(name, 0, memory.clone(), &[call]));
+        }
+        histories.push(history(name, 0, memory, &[Call::Next; 2_000]));
+    }
+    compare(histories);
+}
+
+/// Start looks at the length alone.
+#[test]
+fn start_mends_any_memory() {
+    let damaged = breakages().into_iter().map(|breakage| (breakage.name, to_bytes(&breakage.scheduler)));
+    let calls = [Call::Next, Call::Start, Call::Open { weight: 1 }, Call::Next];
+    compare(damaged.chain(wrong_bytes()).map(|(name, memory)| history(name, 0, memory, &calls)));
+}
+
+/// Each byte flipped in turn.
+#[test]
+fn each_byte_flipped() {
+    let mut random = Random::new(21);
+    let any = states::any_sound(&mut random, 64);
+    let mut calls = 0;
+    for (name, scheduler) in [("fresh", Scheduler::start()), ("rich", states::rich()), ("full", states::full()), ("any", any)] {
+        let bytes = to_bytes(&scheduler);
+        for place in 0..LENGTH {
+            let mut flips = vec![1, 1 << random.below(8), 0xff];
+            if place < 896 {
+                flips = (0..8).map(|bit| 1 << bit).chain([0xff]).collect();
+            }
+            for flip in flips {
+                let mut memory = bytes.clone();
+                memory[place] ^= flip;
+                assert_eq!(record_by_record(&memory), is_sound_memory(&memory), "{name}, byte {place}");
+                calls += compare([history(name, place as u64, memory, &[random.pick(&CALLS)])]);
+            }
+        }
+    }
+    assert!(calls > 80_000);
+}
+
+#[test]
+fn damage_at_random() {
+    let mut random = Random::new(22);
+    for seed in 0..4_000 {
+        let most = random.pick(&[2, 8, 64]);
+        let mut memory = to_bytes(&states::any_sound(&mut random, most));
+        for _ in 0..random.from_to(1, 4) {
+            let end = random.pick(&[64, 192, 832, 896, 7_040]);
+            let place = random.below(end) as usize;
+            memory[place] = random.number() as u8;
+        }
+        compare([history("damage at random", seed, memory, &CALLS)]);
+    }
+}
+
+#[test]
+fn bytes_at_random() {
+    let mut random = Random::new(23);
+    for seed in 0..200 {
+        let memory: Vec<u8> = (0..LENGTH).map(|_| random.number() as u8).collect();
+        compare([history("bytes at random", seed, memory, &CALLS)]);
+    }
+    compare([history("all ones", 0, vec![0xff; LENGTH], &CALLS)]);
+}

@@ -1,0 +1,146 @@
+//! Document 01's own checks, on the independent scheduler.
+
+use host::answers::{Added, Closed, Opened, Refusal};
+use host::scheduler::Scheduler;
+use host::spread::{lead, sequence, term};
+
+/// Channels of these weights in slots 0, 1, ...; each given so many records of one length.
+fn filled(weights: &[u32], records: usize, length: u32) -> Scheduler {
+    let mut scheduler = Scheduler::start();
+    for &weight in weights {
+        let opened = scheduler.open(weight).unwrap();
+        for reference in 0..records {
+            scheduler.put(opened.slot, opened.ticket, length, reference as u32).unwrap();
+        }
+    }
+    scheduler
+}
+
+#[test]
+fn checks_1_to_4_terms() {
+    assert_eq!(term(4, 8), Ok(4));
+    assert_eq!(term(12, 4_095), Ok(1));
+    assert_eq!(term(3, 8), Err(Refusal::BadTerm));
+    assert_eq!(term(3, 7), Ok(1));
+    for position in [0, 1, 2, u32::MAX] {
+        assert_eq!(term(0, position), Err(Refusal::BadTerm));
+    }
+}
+
+#[test]
+fn check_5_weights_1_4_8_3() {
+    let mut scheduler = filled(&[1, 4, 8, 3], 16, 1_024);
+    let slots: Vec<u32> = (0..16).map(|_| scheduler.next().unwrap().slot).collect();
+    assert_eq!(slots, [2, 1, 2, 3, 2, 1, 2, 0, 3, 2, 1, 2, 3, 2, 1, 2]);
+}
+
+#[test]
+fn check_6_terms_taken() {
+    let mut scheduler = filled(&[9], 3, 1_024);
+    let terms: Vec<u32> = (0..3).map(|_| scheduler.next().unwrap().terms).collect();
+    assert_eq!(terms, [1, 2, 2]);
+}
+
+#[test]
+fn check_7_one_visit() {
+    for weight in [1, 9, 4_095] {
+        let mut scheduler = filled(&[weight], 3, 300);
+        let starts: Vec<bool> = (0..3).map(|_| scheduler.next().unwrap().started).collect();
+        assert_eq!(starts, [true, false, false]);
+    }
+}
+
+#[test]
+fn check_8_weights() {
+    let mut scheduler = Scheduler::start();
+    assert_eq!(scheduler.open(4_095), Ok(Opened { slot: 0, ticket: 1 }));
+    assert_eq!(scheduler.open(4_096), Err(Refusal::BadWeight));
+    assert_eq!(scheduler.open(0), Err(Refusal::BadWeight));
+}
+
+#[test]
+fn check_9_lengths() {
+    let mut scheduler = filled(&[1], 0, 0);
+    assert_eq!(scheduler.put(0, 1, 1_024, 7), Ok(Added { serial: 0, waiting: 1 }));
+    assert_eq!(scheduler.put(0, 1, 1_025, 7), Err(Refusal::BadLength));
+    assert_eq!(scheduler.put(0, 1, 0, 7), Err(Refusal::BadLength));
+}
+
+#[test]
+fn check_10_the_17th_record() {
+    let mut scheduler = filled(&[1], 15, 1);
+    assert_eq!(scheduler.put(0, 1, 1, 7), Ok(Added { serial: 15, waiting: 16 }));
+    assert_eq!(scheduler.put(0, 1, 1, 7), Err(Refusal::Full));
+}
+
+#[test]
+fn check_11_leads() {
+    assert_eq!(lead(1, 5, 4_095, 0), Ok(-20_475));
+    assert_eq!(lead(1, 1, 1, 0), Ok(-1));
+    assert_eq!(lead(4_095, 0, 4_095, u32::MAX), Ok(17_587_891_073_025));
+    assert_eq!(lead(4_095, u32::MAX, 4_095, 0), Ok(-17_587_891_073_025));
+    assert_eq!(lead(0, 1, 1, 1), Err(Refusal::BadWeight));
+    assert_eq!(lead(1, 1, 4_096, 1), Err(Refusal::BadWeight));
+}
+
+#[test]
+fn check_12_the_65th_open() {
+    let mut scheduler = filled(&[1; 64], 0, 0);
+    assert_eq!(scheduler.open(1), Err(Refusal::NoSlot));
+    assert_eq!(scheduler.open(0), Err(Refusal::BadWeight));
+    assert_eq!(scheduler.close(17, 1), Ok(Closed::Freed));
+    assert_eq!(scheduler.open(1), Ok(Opened { slot: 17, ticket: 2 }));
+}
+
+#[test]
+fn the_sequence() {
+    assert_eq!(sequence(1), [1]);
+    assert_eq!(sequence(3), [1, 2, 1, 3, 1, 2, 1]);
+    let whole = sequence(12);
+    assert_eq!(whole.len(), 4_095);
+    for order in 1..=12u32 {
+        for position in 1..1u32 << order {
+            let found = term(order, position).unwrap();
+            assert_eq!(found, position.trailing_zeros() + 1);
+            assert_eq!(u64::from(found), whole[position as usize - 1]);
+        }
+        assert_eq!(term(order, 0), Err(Refusal::BadTerm));
+        assert_eq!(term(order, 1 << order), Err(Refusal::BadTerm));
+    }
+    for order in [13, 31, 32, 33, 64, u32::MAX] {
+        assert_eq!(term(order, 1), Err(Refusal::BadTerm));
+    }
+}
+
+#[test]
+fn an_unsound_state_is_refused_before_all_else() {
+    let mut scheduler = Scheduler::start();
+    scheduler.order = 1;
+    assert_eq!(scheduler.open(0), Err(Refusal::Unsound));
+    assert_eq!(scheduler.put(64, 0, 0, 0), Err(Refusal::Unsound));
+    assert_eq!(scheduler.close(64, 0), Err(Refusal::Unsound));
+    assert_eq!(scheduler.next(), Err(Refusal::Unsound));
+    assert_eq!(scheduler.ask(64, 0), Err(Refusal::Unsound));
+}
+
+#[test]
+fn the_order_falls_with_slots_still_to_visit() {
+    // The first row leaves at the fourth send: order 3 becomes 2 and P 4 becomes 0, with slot 2 still listed.
+    let mut scheduler = Scheduler::start();
+    for (weight, records) in [(5, 3), (2, 5), (1, 5)] {
+        let opened = scheduler.open(weight).unwrap();
+        for reference in 0..records {
+            scheduler.put(opened.slot, 1, 1_024, reference).unwrap();
+        }
+    }
+    let first: Vec<u32> = (0..3).map(|_| scheduler.next().unwrap().slot).collect();
+    assert_eq!(first, [0, 1, 0]);
+    assert_eq!((scheduler.order, scheduler.scan.position), (3, 3));
+    assert_eq!(scheduler.next().unwrap().slot, 0);
+    assert_eq!((scheduler.order, scheduler.scan.position), (2, 0));
+    assert_eq!(scheduler.scan.to_visit, [2].into());
+    let sent = scheduler.next().unwrap();
+    assert_eq!((sent.slot, sent.started, sent.terms), (2, true, 0));
+    let sent = scheduler.next().unwrap();
+    assert_eq!((sent.slot, sent.started, sent.terms, scheduler.scan.position), (1, true, 1, 1));
+}

@@ -1,0 +1,124 @@
+//! The lent memory: where each byte stands, writer against reader, and the two checks against each other.
+
+use host::check::record_by_record;
+use host::layout::{from_bytes, is_sound_memory, name_of, to_bytes, LENGTH};
+use host::random::Random;
+use host::scheduler::Scheduler;
+use host::states;
+
+#[test]
+fn the_fresh_state_is_all_zeros() {
+    assert_eq!(to_bytes(&Scheduler::start()), vec![0; LENGTH]);
+    assert!(is_sound_memory(&[0; LENGTH]));
+    assert!(!is_sound_memory(&[0; LENGTH - 1]));
+    assert!(!is_sound_memory(&[0; LENGTH + 1]));
+    assert!(!is_sound_memory(&[]));
+}
+
+/// Every byte of a small state, written down by hand from the layout page.
+#[test]
+fn a_state_by_hand() {
+    let mut scheduler = Scheduler::start();
+    scheduler.channels[2] = states::channel(host::scheduler::Kind::Closing, 0x0102_0304, 0x0a0b, 0x0102, 0xfffe, &[0x0102, 0x0304]);
+    scheduler.channels[5] = states::channel(host::scheduler::Kind::Open, 7, 0x0001, 0x0203, 9, &[0x0005]);
+    scheduler.channels[2].records[0].reference = 0x1122_3344;
+    scheduler.channels[2].records[1].reference = 0x5566_7788;
+    scheduler.channels[5].records[0].reference = 0x99aa_bbcc;
+    scheduler.rows = vec![5, 2];
+    scheduler.order = 12;
+    scheduler.scan.position = 0x0789;
+    scheduler.scan.column = 0;
+    scheduler.scan.to_visit = [2].into();
+    scheduler.scan.visit = Some(5);
+    assert!(scheduler.sound());
+    let mut expected = vec![0; LENGTH];
+    #[rustfmt::skip]
+    let places: &[(usize, u8)] = &[
+        (0, 5), (1, 2),
+        (66, 2), (69, 1),
+        (130, 2), (133, 1),
+        (194, 4), (258, 3), (322, 2), (386, 1), (197, 7),
+        (450, 0x0b), (514, 0x0a), (453, 1),
+        (578, 2), (642, 1), (581, 3), (645, 2),
+        (706, 0xfe), (770, 0xff), (709, 9),
+        (832, 2), (833, 12), (834, 0x89), (835, 0x07), (837, 4), (845, 6),
+        (896, 2), (897, 4), (898, 5), (1_920, 1), (1_921, 3),
+        (2_944, 0x44), (2_945, 0x88), (2_946, 0xcc),
+        (3_968, 0x33), (3_969, 0x77), (3_970, 0xbb),
+        (4_992, 0x22), (4_993, 0x66), (4_994, 0xaa),
+        (6_016, 0x11), (6_017, 0x55), (6_018, 0x99),
+    ];
+    for &(place, byte) in places {
+        expected[place] = byte;
+    }
+    assert_eq!(to_bytes(&scheduler), expected);
+    assert_eq!(from_bytes(&expected), Some(scheduler));
+}
+
+#[test]
+fn slots_to_visit_are_bits_of_one_number() {
+    let mut scheduler = Scheduler::start();
+    scheduler.scan.to_visit = [0, 9, 63].into();
+    let bytes = to_bytes(&scheduler);
+    assert_eq!(&bytes[837..845], [1, 2, 0, 0, 0, 0, 0, 128]);
+}
+
+#[test]
+fn each_byte_has_a_name() {
+    assert_eq!(name_of(0), "rows, lane 0, byte 0");
+    assert_eq!(name_of(192 + 64 + 3), "ticket, lane 3, byte 1");
+    assert_eq!(name_of(895), "nothing, lane 49, byte 0");
+    assert_eq!(name_of(LENGTH - 1), "reference, lane 1023, byte 3");
+    assert!((0..LENGTH).all(|place| name_of(place) != name_of(LENGTH)));
+}
+
+#[test]
+fn sound_states_round_trip() {
+    let mut random = Random::new(11);
+    for round in 0..2_000 {
+        let most = random.pick(&[1, 4, 30, 64]);
+        let scheduler = states::any_sound(&mut random, most);
+        assert_eq!(scheduler.broken(), [], "round {round}");
+        let bytes = to_bytes(&scheduler);
+        assert_eq!(from_bytes(&bytes).as_ref(), Some(&scheduler));
+        assert!(is_sound_memory(&bytes) && record_by_record(&bytes));
+    }
+}
+
+/// Bytes changed at random: what decodes is written as it was read, and the two checks agree.
+#[test]
+fn damaged_memories_decode_or_not() {
+    let mut random = Random::new(12);
+    let (mut sound, mut unsound, mut nothing) = (0, 0, 0);
+    for _ in 0..30_000 {
+        let most = random.pick(&[1, 4, 64]);
+        let mut bytes = to_bytes(&states::any_sound(&mut random, most));
+        for _ in 0..random.from_to(1, 3) {
+            let end = random.pick(&[192, 896, 896, 7_040]);
+            let place = random.below(end) as usize;
+            bytes[place] = random.pick(&[0, 1, 2, 255, bytes[place] ^ 1, bytes[place].wrapping_add(1)]);
+        }
+        assert_eq!(record_by_record(&bytes), is_sound_memory(&bytes));
+        match from_bytes(&bytes) {
+            Some(scheduler) => {
+                assert_eq!(from_bytes(&to_bytes(&scheduler)), Some(scheduler));
+                if is_sound_memory(&bytes) {
+                    sound += 1
+                } else {
+                    unsound += 1
+                }
+            }
+            None => nothing += 1,
+        }
+    }
+    assert!(sound > 1_000 && unsound > 1_000 && nothing > 100, "{sound} {unsound} {nothing}");
+}
+
+#[test]
+fn random_bytes_do_not_stop_the_reader() {
+    let mut random = Random::new(13);
+    for _ in 0..2_000 {
+        let bytes: Vec<u8> = (0..LENGTH).map(|_| if random.chance(1, 40) { random.number() as u8 } else { 0 }).collect();
+        assert_eq!(record_by_record(&bytes), is_sound_memory(&bytes));
+    }
+}

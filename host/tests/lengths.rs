@@ -1,0 +1,60 @@
+//! Other lengths of state and answer, for every entry.
+
+mod common;
+
+use host::compare::run_all;
+use host::damage::breakages;
+use host::history::{Call, History, Step};
+use host::layout::{to_bytes, LENGTH};
+use host::states;
+
+const CALLS: [Call; 12] = [
+    Call::Start,
+    Call::Open { weight: 3 },
+    Call::Open { weight: 0 },
+    Call::Put { slot: 1, ticket: 1, length: 5, reference: 6 },
+    Call::Put { slot: 64, ticket: 1, length: 5, reference: 6 },
+    Call::Close { slot: 1, ticket: 1 },
+    Call::Next,
+    Call::Ask { slot: 1, ticket: 1 },
+    Call::Lead { w1: 1, v1: 2, w2: 3, v2: 4 },
+    Call::Lead { w1: 0, v1: 2, w2: 3, v2: 4 },
+    Call::Term { order: 3, position: 4 },
+    Call::Term { order: 0, position: 4 },
+];
+
+const STATE_LENGTHS: [usize; 14] = [0, 1, 28, 63, 64, 896, 3_520, 7_038, 7_039, 7_040, 7_041, 7_104, 8_192, 14_080];
+
+fn compare(memory: Vec<u8>) -> u64 {
+    let mut steps = Vec::new();
+    for call in CALLS {
+        for state_length in STATE_LENGTHS {
+            for answer_length in (0..=64).chain([7_040]) {
+                let mislent = Step::Mislent { call, state_length, answer_length };
+                let start_accepted = call == Call::Start && state_length == LENGTH;
+                let accepted = state_length == LENGTH && answer_length == call.answer_length();
+                // Accepted calls would change the memory for the rest; they are compared elsewhere.
+                if !start_accepted && !accepted {
+                    steps.push(mislent);
+                }
+            }
+        }
+    }
+    let history = History { seed: 0, shape: "other lengths", memory, steps };
+    match run_all(&mut common::engine(), [history]) {
+        Ok(calls) => calls,
+        Err(report) => panic!("{report}"),
+    }
+}
+
+#[test]
+fn of_a_sound_state() {
+    assert!(compare(to_bytes(&states::rich())) > 10_000);
+    assert!(compare(to_bytes(&states::full())) > 10_000);
+}
+
+#[test]
+fn of_an_unsound_state() {
+    let first = &breakages()[0];
+    assert!(compare(to_bytes(&first.scheduler)) > 10_000);
+}

@@ -1,0 +1,41 @@
+//! The comparison of texts, on the program made of the independent scheduler; with a real `lift`, use the program `lift_compare`.
+
+use std::path::Path;
+
+use host::lift::lift;
+use host::texts::{compare, text};
+
+#[test]
+fn the_model_program_passes() {
+    let program = Path::new(env!("CARGO_BIN_EXE_lift_model"));
+    assert_eq!(compare(program, 1..120).unwrap(), Ok(119));
+}
+
+/// `cat` prints the commands themselves: one line is enough to see that.
+#[test]
+#[cfg(unix)]
+fn another_program_does_not() {
+    let difference = compare(Path::new("cat"), 1..20).unwrap().unwrap_err();
+    assert!(difference.contains("should be:"), "{difference}");
+    assert!(difference.lines().count() <= 12, "{difference}");
+}
+
+/// The texts hold every kind of printed line.
+#[test]
+fn texts_are_of_all_kinds() {
+    let mut printed: Vec<u8> = Vec::new();
+    let (mut empty, mut long, mut open_end) = (0, 0, 0);
+    for seed in 0..400 {
+        let text = text(seed);
+        empty += u32::from(text.is_empty());
+        long += u32::from(text.len() == 65_536);
+        open_end += u32::from(text.last().is_some_and(|&last| last != b'\n'));
+        printed.extend(lift(&text));
+    }
+    let lines: Vec<&[u8]> = printed.split(|&byte| byte == b'\n').collect();
+    let with = |start: &str| lines.iter().filter(|line| line.starts_with(start.as_bytes())).count();
+    for start in ["O ", "P ", "C 0", "C 1", "N ", "R 1", "R 2", "R 3", "R 4", "R 5", "R 6", "R 7", "R 8", "?", "? input"] {
+        assert!(with(start) > 5, "{start}: {}", with(start));
+    }
+    assert!(empty > 5 && long > 5 && open_end > 5, "{empty} {long} {open_end}");
+}

@@ -1,0 +1,101 @@
+//! The safe wrapper on the exported library: document 01's checks, and any bytes and numbers without a panic.
+#![cfg(feature = "linked")]
+
+use host::answers::{Added, Closed, Opened, Refusal, Sent, Standing, Told};
+use host::driver::{lead, term, Memory};
+use host::layout::LENGTH;
+use host::random::Random;
+
+#[test]
+fn checks_1_to_4_and_11() {
+    assert_eq!(term(4, 8), Ok(4));
+    assert_eq!(term(12, 4_095), Ok(1));
+    assert_eq!(term(3, 8), Err(Refusal::BadTerm));
+    assert_eq!(term(3, 7), Ok(1));
+    assert_eq!(term(0, 1), Err(Refusal::BadTerm));
+    assert_eq!(lead(1, 5, 4_095, 0), Ok(-20_475));
+    assert_eq!(lead(1, 1, 1, 0), Ok(-1));
+    assert_eq!(lead(0, 1, 1, 0), Err(Refusal::BadWeight));
+}
+
+#[test]
+fn check_5() {
+    let mut memory = Memory::new();
+    for weight in [1, 4, 8, 3] {
+        let opened = memory.open(weight).unwrap();
+        for reference in 0..16 {
+            memory.put(opened.slot, opened.ticket, 1_024, reference).unwrap();
+        }
+    }
+    let slots: Vec<u32> = (0..16).map(|_| memory.next().unwrap().slot).collect();
+    assert_eq!(slots, [2, 1, 2, 3, 2, 1, 2, 0, 3, 2, 1, 2, 3, 2, 1, 2]);
+}
+
+#[test]
+fn checks_6_to_10_and_12() {
+    for (length, terms, starts) in [(1_024, [1, 2, 2], [true; 3]), (300, [1, 0, 0], [true, false, false])] {
+        let mut memory = Memory::new();
+        memory.open(9).unwrap();
+        for reference in 0..3 {
+            memory.put(0, 1, length, reference).unwrap();
+        }
+        let sent: Vec<Sent> = (0..3).map(|_| memory.next().unwrap()).collect();
+        assert_eq!(sent.iter().map(|sent| sent.terms).collect::<Vec<_>>(), terms);
+        assert_eq!(sent.iter().map(|sent| sent.started).collect::<Vec<_>>(), starts);
+        assert_eq!(sent.iter().map(|sent| sent.serial).collect::<Vec<_>>(), [0, 1, 2]);
+    }
+    let mut memory = Memory::default();
+    assert_eq!(memory.open(4_095), Ok(Opened { slot: 0, ticket: 1 }));
+    assert_eq!(memory.open(4_096), Err(Refusal::BadWeight));
+    assert_eq!(memory.open(0), Err(Refusal::BadWeight));
+    assert_eq!(memory.put(0, 1, 1_025, 7), Err(Refusal::BadLength));
+    for waiting in 1..=16 {
+        assert_eq!(memory.put(0, 1, 1_024, 7), Ok(Added { serial: waiting - 1, waiting }));
+    }
+    assert_eq!(memory.put(0, 1, 1_024, 7), Err(Refusal::Full));
+    for slot in 1..64 {
+        assert_eq!(memory.open(1), Ok(Opened { slot, ticket: 1 }));
+    }
+    assert_eq!(memory.open(1), Err(Refusal::NoSlot));
+}
+
+#[test]
+fn a_channel_drains() {
+    let mut memory = Memory::new();
+    assert_eq!(memory.next(), Err(Refusal::NothingWaits));
+    memory.open(5).unwrap();
+    memory.put(0, 1, 600, 77).unwrap();
+    memory.put(0, 1, 424, 78).unwrap();
+    assert_eq!(memory.close(0, 1), Ok(Closed::Draining));
+    assert_eq!(memory.close(0, 1), Err(Refusal::IsClosing));
+    assert_eq!(memory.next(), Ok(Sent { slot: 0, ticket: 1, length: 600, reference: 77, serial: 0, started: true, terms: 1 }));
+    assert_eq!(memory.ask(0, 1), Ok(Told { standing: Standing::Closing, weight: 5, deficit: 424, waiting: 1 }));
+    assert_eq!(memory.next(), Ok(Sent { slot: 0, ticket: 1, length: 424, reference: 78, serial: 1, started: false, terms: 0 }));
+    assert_eq!(memory.ask(0, 1), Err(Refusal::NotPresent));
+    assert_eq!(memory.open(6), Ok(Opened { slot: 0, ticket: 2 }));
+    assert_eq!(memory.close(0, 1), Err(Refusal::NotPresent));
+    assert_eq!(memory.ask(0, 2), Ok(Told { standing: Standing::Open, weight: 6, deficit: 0, waiting: 0 }));
+    assert_eq!(memory.close(0, 2), Ok(Closed::Freed));
+    assert_eq!(memory.ask(64, 1), Err(Refusal::SlotAbove));
+}
+
+#[test]
+fn any_bytes_and_numbers() {
+    let mut random = Random::new(41);
+    for _ in 0..500 {
+        let mut bytes = [0; LENGTH];
+        for _ in 0..random.below(20) {
+            bytes[random.below(LENGTH as u64) as usize] = random.number() as u8;
+        }
+        let mut memory = Memory::from_bytes(bytes);
+        let mut number = || random.number() as u32;
+        let _ = memory.open(number());
+        let _ = memory.put(number(), number(), number(), number());
+        let _ = memory.close(number() % 65, number());
+        let _ = memory.next();
+        let _ = memory.ask(number() % 65, number());
+        let _ = (lead(number(), number(), number(), number()), term(number(), number()));
+        assert_eq!(memory.start(), Ok(()));
+        assert_eq!(memory.bytes(), &[0; LENGTH]);
+    }
+}

@@ -1,0 +1,262 @@
+//! Wrong engines: the model engine with one slip each. The comparer must find every one.
+
+use host::answers::{Opened, Refusal, Sent};
+use host::engine::Engine;
+use host::layout;
+use host::model::{answer_bytes, apart, on, Model};
+use host::scheduler::{Kind, Scheduler, LAST_TICKET};
+use host::spread;
+
+#[derive(Clone, Copy, Debug, PartialEq, Eq)]
+pub enum Slip {
+    // Document 01, "Slips we have seen".
+    SlotNotTicket,
+    JoinsTheScan,
+    DeficitKept,
+    VisitDecidedLate,
+    PositionOne,
+    // Other slips in the rules.
+    LessForAtMost,
+    SlotOrder,
+    ColumnKept,
+    SerialStops,
+    RiseMovesPosition,
+    WrapToZero,
+    TicketReused,
+    ClosingKept,
+    // Slips in the checks and on the driver's side.
+    SevenBeforeSix,
+    FiveBeforeFour,
+    FourBeforeThree,
+    AnswerKeptOnRefusal,
+    WrongAnswerWritten,
+    NothingUnchecked,
+    VisitLimit,
+    TermOneFurther,
+    LeadNarrow,
+}
+
+impl Slip {
+    pub const ALL: [Slip; 22] = [
+        Slip::SlotNotTicket,
+        Slip::JoinsTheScan,
+        Slip::DeficitKept,
+        Slip::VisitDecidedLate,
+        Slip::PositionOne,
+        Slip::LessForAtMost,
+        Slip::SlotOrder,
+        Slip::ColumnKept,
+        Slip::SerialStops,
+        Slip::RiseMovesPosition,
+        Slip::WrapToZero,
+        Slip::TicketReused,
+        Slip::ClosingKept,
+        Slip::SevenBeforeSix,
+        Slip::FiveBeforeFour,
+        Slip::FourBeforeThree,
+        Slip::AnswerKeptOnRefusal,
+        Slip::WrongAnswerWritten,
+        Slip::NothingUnchecked,
+        Slip::VisitLimit,
+        Slip::TermOneFurther,
+        Slip::LeadNarrow,
+    ];
+}
+
+pub struct Wrong(pub Slip);
+
+impl Wrong {
+    fn is(&self, slip: Slip) -> bool {
+        self.0 == slip
+    }
+
+    /// The slot is looked at and not the ticket.
+    fn ticket(&self, scheduler: &Scheduler, slot: u32, ticket: u32) -> u32 {
+        match scheduler.channels.get(slot as usize) {
+            Some(channel) if self.is(Slip::SlotNotTicket) && channel.kind != Kind::Free => channel.ticket as u32,
+            _ => ticket,
+        }
+    }
+
+    /// A slip in what is around the rules' own call: the answer buffer and the check of the memory.
+    fn around(&self, state: &mut [u8], answer: &mut [u8], length: usize, call: impl FnOnce(&mut [u8], &mut [u8]) -> u32) -> u32 {
+        let before = answer.to_vec();
+        if self.is(Slip::WrongAnswerWritten) && answer.len() != length {
+            answer.fill(0);
+            return Refusal::Unsound.number();
+        }
+        if self.is(Slip::NothingUnchecked) && answer.len() == length {
+            if let Some(scheduler) = layout::from_bytes(state).filter(Scheduler::sound) {
+                layout::write(&scheduler, state);
+            }
+        }
+        if self.is(Slip::VisitLimit) && answer.len() == length {
+            if let Some(scheduler) = layout::from_bytes(state) {
+                if scheduler.scan.visit.is_some_and(|slot| scheduler.channels[slot].deficit > 2_045) {
+                    answer.fill(0);
+                    return Refusal::Unsound.number();
+                }
+            }
+        }
+        let number = call(state, answer);
+        if self.is(Slip::AnswerKeptOnRefusal) && number != 0 {
+            answer.copy_from_slice(&before);
+        }
+        number
+    }
+
+    fn open_call(&self, scheduler: &mut Scheduler, weight: u32) -> Result<Opened, Refusal> {
+        let can_open = scheduler.channels.iter().any(|channel| channel.kind == Kind::Free && channel.ticket != LAST_TICKET);
+        if self.is(Slip::SevenBeforeSix) && !can_open {
+            return Err(Refusal::NoSlot);
+        }
+        let opened = scheduler.open_sound(weight)?;
+        if self.is(Slip::TicketReused) && opened.ticket > 1 {
+            let channel = &mut scheduler.channels[opened.slot as usize];
+            channel.ticket -= 1;
+            return Ok(Opened { ticket: opened.ticket - 1, ..opened });
+        }
+        Ok(opened)
+    }
+
+    fn put_slips(&self, before: &Scheduler, after: &mut Scheduler, slot: usize, waiting: u32) {
+        let scan = &mut after.scan;
+        let of_the_column = !scan.to_visit.is_empty() && after.channels[slot].weight >> scan.column & 1 == 1;
+        if self.is(Slip::JoinsTheScan) && waiting == 1 && of_the_column {
+            scan.to_visit.insert(slot);
+        }
+        if self.is(Slip::RiseMovesPosition) && before.order > 0 {
+            scan.position <<= after.order - before.order;
+        }
+        if self.is(Slip::SerialStops) && before.channels[slot].next_serial == 65_535 {
+            after.channels[slot].next_serial = 65_535;
+        }
+    }
+
+    /// Next with its steps as in the scheduler, and the slips between them.
+    fn next_call(&self, scheduler: &mut Scheduler) -> Result<Sent, Refusal> {
+        if scheduler.rows.is_empty() {
+            return Err(Refusal::NothingWaits);
+        }
+        let (slot, started, terms) = self.choose(scheduler)?;
+        let channel = &scheduler.channels[slot];
+        let ticket = channel.ticket as u32;
+        let serial = (channel.next_serial + 65_536 - channel.records.len() as u64) as u32 % 65_536;
+        let record = scheduler.send(slot);
+        self.settle(scheduler, slot);
+        Ok(Sent { slot: slot as u32, ticket, length: record.length as u32, reference: record.reference as u32, serial, started, terms })
+    }
+
+    fn choose(&self, scheduler: &mut Scheduler) -> Result<(usize, bool, u32), Refusal> {
+        if let Some(slot) = scheduler.scan.visit {
+            return Ok((slot, false, 0));
+        }
+        let mut terms = 0;
+        if scheduler.scan.to_visit.is_empty() {
+            terms = scheduler.take_terms()?;
+            if self.is(Slip::WrapToZero) && scheduler.scan.position + 1 == 1 << scheduler.order {
+                scheduler.scan.position = 0;
+            }
+        }
+        let listed = |slot: &usize| scheduler.scan.to_visit.contains(slot);
+        let first =
+            if self.is(Slip::SlotOrder) { scheduler.scan.to_visit.first().copied() } else { scheduler.rows.iter().copied().find(listed) };
+        let first = first.ok_or(Refusal::EmptyColumns)?;
+        let column = scheduler.scan.column;
+        scheduler.start_visit(first);
+        if self.is(Slip::ColumnKept) {
+            scheduler.scan.column = column;
+        }
+        Ok((first, true, terms))
+    }
+
+    fn settle(&self, scheduler: &mut Scheduler, slot: usize) {
+        let (order, position) = (scheduler.order, scheduler.scan.position);
+        let deficit = scheduler.channels[slot].deficit;
+        let closing = scheduler.channels[slot].kind == Kind::Closing;
+        let kept = scheduler.channels[slot].clone();
+        scheduler.settle(slot);
+        let channel = &mut scheduler.channels[slot];
+        let emptied = channel.records.is_empty();
+        match self.0 {
+            Slip::DeficitKept if emptied && !closing => channel.deficit = deficit,
+            Slip::ClosingKept if emptied && closing => *channel = host::scheduler::Channel { kind: Kind::Open, deficit: 0, ..kept },
+            Slip::VisitDecidedLate if !emptied => scheduler.scan.visit = Some(slot),
+            Slip::LessForAtMost if !emptied && channel.records[0].length == deficit => scheduler.scan.visit = None,
+            Slip::PositionOne if scheduler.order > 0 && scheduler.order < order && position > 0 => {
+                scheduler.scan.position = scheduler.scan.position.max(1);
+            }
+            _ => {}
+        }
+    }
+}
+
+impl Engine for Wrong {
+    fn start(&mut self, state: &mut [u8]) -> u32 {
+        Model.start(state)
+    }
+
+    fn open(&mut self, state: &mut [u8], weight: u32, answer: &mut [u8]) -> u32 {
+        self.around(state, answer, 8, |state, answer| on(state, answer, 8, |scheduler| self.open_call(scheduler, weight)))
+    }
+
+    fn put(&mut self, state: &mut [u8], slot: u32, ticket: u32, length: u32, reference: u32, answer: &mut [u8]) -> u32 {
+        self.around(state, answer, 8, |state, answer| {
+            on(state, answer, 8, |scheduler| {
+                let ticket = self.ticket(scheduler, slot, ticket);
+                let before = scheduler.clone();
+                let result = scheduler.put_sound(slot, ticket, length, reference);
+                match result {
+                    Err(Refusal::BadLength) if self.is(Slip::FiveBeforeFour) && before.channels[slot as usize].records.len() == 16 => {
+                        return Err(Refusal::Full);
+                    }
+                    Err(Refusal::IsClosing) if self.is(Slip::FourBeforeThree) && !(1..=1_024).contains(&length) => {
+                        return Err(Refusal::BadLength);
+                    }
+                    _ => {}
+                }
+                let added = result?;
+                self.put_slips(&before, scheduler, slot as usize, added.waiting);
+                Ok(added)
+            })
+        })
+    }
+
+    fn close(&mut self, state: &mut [u8], slot: u32, ticket: u32, answer: &mut [u8]) -> u32 {
+        self.around(state, answer, 4, |state, answer| {
+            on(state, answer, 4, |scheduler| {
+                let ticket = self.ticket(scheduler, slot, ticket);
+                scheduler.close_sound(slot, ticket)
+            })
+        })
+    }
+
+    fn next(&mut self, state: &mut [u8], answer: &mut [u8]) -> u32 {
+        self.around(state, answer, 28, |state, answer| on(state, answer, 28, |scheduler| self.next_call(scheduler)))
+    }
+
+    fn ask(&mut self, state: &mut [u8], slot: u32, ticket: u32, answer: &mut [u8]) -> u32 {
+        self.around(state, answer, 16, |state, answer| {
+            on(state, answer, 16, |scheduler| {
+                let ticket = self.ticket(scheduler, slot, ticket);
+                scheduler.ask_sound(slot, ticket)
+            })
+        })
+    }
+
+    fn lead(&mut self, w1: u32, v1: u32, w2: u32, v2: u32, answer: &mut [u8]) -> u32 {
+        let mut result = spread::lead(w1, v1, w2, v2);
+        if self.is(Slip::LeadNarrow) {
+            result = result.map(|_| i64::from(w1.wrapping_mul(v2).wrapping_sub(w2.wrapping_mul(v1)) as i32));
+        }
+        apart(answer, result.map(i64::to_le_bytes))
+    }
+
+    fn term(&mut self, order: u32, position: u32, answer: &mut [u8]) -> u32 {
+        if self.is(Slip::TermOneFurther) && answer.len() == 4 && (1..=12).contains(&order) && position == 1 << order {
+            answer.copy_from_slice(&answer_bytes(&[order + 1]));
+            return 0;
+        }
+        apart(answer, spread::term(order, position).map(u32::to_le_bytes))
+    }
+}
