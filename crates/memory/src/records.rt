@@ -2,7 +2,6 @@
 //
 // A record's length and reference stand in the lines of two fields at the record's place in the run. Adding or taking a record slides those lines by
 // one cell from its place on, so the memory of a state is always the same whatever calls led to it.
-use super::heads::waiting_of;
 use super::layout::RECORDS;
 use super::layout::REFERENCE;
 use super::layout::SIZE;
@@ -31,13 +30,13 @@ pub fn first_of(state: &[u8], slot: usize) -> usize
     requires { ⌜ (length (now state) ≡ 7040) × (slot ≤ 64) ⌝ }
     ensures { λ r. ⌜ r ≡ firstAt (now (state .entry)) slot ⌝ }
 {
-    let mut sum: usize = 0;
+    let mut sum: u16 = 0;
     let mut s = 0;
     while s < slot {
-        sum += waiting_of(state, s);
+        sum += state[WAITING + s] as u16;
         s += 1;
     }
-    sum
+    sum as usize
 }
 
 pub struct Entry {

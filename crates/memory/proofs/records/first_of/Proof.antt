@@ -1,5 +1,5 @@
--- The sum so far is the first place of the next slot.
-use Prim.Native.Nat.{_≤_, _-_, _*_}
+-- The sum so far is the first place of the next slot; 16 bits hold it, so that a compiler can add up eight at a time.
+use Prim.Native.Nat.{_+_, _≤_, _-_, _*_}
 use mathlib.Core.Path.{_≡_, refl}
 use native.Mathlib.Omega.{arith}
 use borrow.Author.Needs.{needs}
@@ -19,11 +19,17 @@ loop-holds : tie.Need-loop-holds Inv-loop μ-loop
 unfolding firstAt
 loop-holds c = (search needs, search needs, refl)
 
-waiting-of-requires : tie.Need-waiting-of-requires Inv-loop μ-loop
-waiting-of-requires c κs = search needs
-
 add-sum : tie.Need-add-sum Inv-loop μ-loop
 add-sum c = search needs
+
+shared-slice-read-sum : tie.Need-shared-slice-read-sum Inv-loop μ-loop
+shared-slice-read-sum c = search needs
+
+cast-sum : tie.Need-cast-sum Inv-loop μ-loop
+cast-sum c = omega (arith, c .shared-slice-known .given (128 + c .before .before .loop .s))
+
+add-sum-2 : tie.Need-add-sum-2 Inv-loop μ-loop
+add-sum-2 c = omega (arith, c .shared-slice-known .given (128 + c .before .before .loop .s))
 
 add-s : tie.Need-add-s Inv-loop μ-loop
 add-s c = search needs
@@ -34,10 +40,14 @@ loop-less c = search needs
 loop-again : tie.Need-loop-again Inv-loop μ-loop
 loop-again c =
     let l = c .before .before .loop in
-    (search needs, search needs, cc (first-next (now (c .before .before .before .before .args .state)) (l .s)))
+    let b = now (c .before .before .before .args .state) in
+    (search needs, omega (arith, c .shared-slice-known .given (128 + l .s)), cc (first-next b (l .s)))
+
+cast-result : tie.Need-cast-result Inv-loop μ-loop
+cast-result c = search needs
 
 returns : tie.Need-returns Inv-loop μ-loop
-returns c = let e : c .before .loop .s ≡ c .before .before .before .args .slot = omega arith in rw e at (c .before .loop .inv .2)
+returns c = let e : c .before .loop .s ≡ c .before .before .args .slot = omega arith in rw e at (c .before .loop .inv .2)
 
 pub first-of-spec : {M : Type 1} → statement M
 first-of-spec =
@@ -46,9 +56,12 @@ first-of-spec =
     Inv-loop
     μ-loop
     loop-holds
-    waiting-of-requires
     add-sum
+    shared-slice-read-sum
+    cast-sum
+    add-sum-2
     add-s
     loop-less
     loop-again
+    cast-result
     returns)
