@@ -1,0 +1,13 @@
+pub mod DigitLaws
+pub mod NumberLaws
+pub mod SpacedLaws
+pub mod LineLaws
+pub mod PlaceLaws
+pub mod WritingLaws
+pub mod ShownCommands
+pub mod ReadLines
+pub mod PrintingLaws
+pub mod OutputLaws
+pub mod SessionLaws
+pub mod PrintedLines
+pub mod RuledOutput

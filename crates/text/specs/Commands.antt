@@ -1,0 +1,86 @@
+-- The commands: how each is written, and what a line asks for. Assumes nothing.
+use mathlib.Core.Path.{_≡_}
+use mathlib.Core.Bool.{cond}
+use mathlib.Core.List.{List, [], _∷_, _++_, map}
+use mathlib.Core.Option.{Option, none, some}
+use Prim.Native.Nat.{ℕ, _≤_}
+use lib.Dec.{eqb}
+use Rattle.rules.specs.Calls.{Call, toOpen, toPut, toClose, toNext, toStart, toAsk}
+use Rattle.text.specs.declared.command.Command.{Command}
+use Rattle.text.specs.declared.command.Command.the-variants as command
+use Rattle.text.specs.Lines.{linesOf}
+use Rattle.text.specs.Digits.{largest, digits, Front, number, nothing, spacedOff}
+
+-- ---- "`O weight`, `P slot ticket length reference`, `C slot ticket`, `N`. One space between"
+
+-- each number after one space
+abbrev pub spaced : List ℕ → List ℕ
+spaced [] = []
+spaced (n ∷ ns) = 32 ∷ digits n ++ spaced ns
+
+-- the line of a command; Start and Ask have none
+abbrev pub shown : Call → Option (List ℕ)
+shown (toOpen w) = some (79 ∷ spaced (w ∷ []))
+shown (toPut i t n r) = some (80 ∷ spaced (i ∷ t ∷ n ∷ r ∷ []))
+shown (toClose i t) = some (67 ∷ spaced (i ∷ t ∷ []))
+shown toNext = some (78 ∷ spaced [])
+shown toStart = none
+shown (toAsk i t) = none
+
+-- "decimals up to 4,294,967,295": each number of the call is
+abbrev pub Within : Call → Type 0
+Within (toOpen w) = w ≤ largest
+Within (toPut i t n r) = (i ≤ largest) × (t ≤ largest) × (n ≤ largest) × (r ≤ largest)
+Within (toClose i t) = (i ≤ largest) × (t ≤ largest)
+Within toNext = Unit {0}
+Within toStart = Unit {0}
+Within (toAsk i t) = (i ≤ largest) × (t ≤ largest)
+
+-- l is the line of the call c
+pub record Shows (l : List ℕ) (c : Call) : Type 0 where
+  pub line : shown c ≡ some l
+  pub within : Within c
+
+-- ---- What a line asks for, read from the front as the program does.
+
+abbrev pub byFront : (ℕ → List ℕ → Option Call) → Front → Option Call
+byFront f (number v rest) = f v rest
+byFront f nothing = none
+
+-- one space and a number, and then f
+abbrev pub withNumber : (ℕ → List ℕ → Option Call) → List ℕ → Option Call
+withNumber f l = byFront f (spacedOff l)
+
+-- the line ends here
+abbrev pub atEnd : Call → List ℕ → Option Call
+atEnd c [] = some c
+atEnd c (x ∷ l) = none
+
+-- after each letter
+abbrev pub openOf : List ℕ → Option Call
+openOf = withNumber (λ w. atEnd (toOpen w))
+
+abbrev pub putOf : List ℕ → Option Call
+putOf = withNumber (λ i. withNumber (λ t. withNumber (λ n. withNumber (λ r. atEnd (toPut i t n r)))))
+
+abbrev pub closeOf : List ℕ → Option Call
+closeOf = withNumber (λ i. withNumber (λ t. atEnd (toClose i t)))
+
+-- none for "a line of any other form"
+unfoldable pub commandOf : List ℕ → Option Call
+commandOf [] = none
+commandOf (c ∷ cs) =
+    cond (eqb c 79) (openOf cs)
+    (cond (eqb c 80) (putOf cs) (cond (eqb c 67) (closeOf cs) (cond (eqb c 78) (atEnd toNext cs) none)))
+
+-- what a text asks for, line by line
+abbrev pub commandsOf : List ℕ → List (Option Call)
+commandsOf s = map commandOf (linesOf s)
+
+-- ---- The call that the code's answer stands for.
+abbrev pub callOf : Command → Option Call
+callOf (command.Open w) = some (toOpen w)
+callOf (command.Put i t n r) = some (toPut i t n r)
+callOf (command.Close i t) = some (toClose i t)
+callOf command.Next = some toNext
+callOf command.Other = none
