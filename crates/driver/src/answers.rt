@@ -1,41 +1,14 @@
 // What comes back in C: a refusal's number, and the fields of an answer in the lent buffer.
+use octets::clear::clear;
 use octets::low_first::write_u32;
 use uplink::Refusal;
+use uplink::number_of;
 ghost use mathlib.Core.Path.{_≡_};
 ghost use Prim.Native.Nat.{_*_};
 ghost use lib.ListN.{length, replicate};
 ghost use Rattle.spread.specs.Answer.{numberOf};
 ghost use Rattle.uplink.specs.Told.{refusalTold};
 ghost use Rattle.driver.specs.Words.{words, twos};
-
-// The number of a refusal, by document 01's table.
-pub fn number_of(why: Refusal) -> u32
-    ensures { λ r. ⌜ r ≡ numberOf (refusalTold why) ⌝ }
-{
-    match why {
-        Refusal::NoSlot => 1,
-        Refusal::NotPresent => 2,
-        Refusal::AtClosing => 3,
-        Refusal::BadLength => 4,
-        Refusal::Full => 5,
-        Refusal::BadWeight => 6,
-        Refusal::NoneFree => 7,
-        Refusal::NoneWaits => 8,
-        Refusal::NoRow => 9,
-        Refusal::Unsound => 10,
-    }
-}
-
-// Each byte of the buffer becomes 0.
-pub fn clear(answer: &mut [u8])
-    ensures { λ _. ⌜ now (answer .exit) ≡ replicate (length (now (answer .entry))) 0 ⌝ }
-{
-    let mut i = 0;
-    while i < answer.len() {
-        answer[i] = 0;
-        i += 1;
-    }
-}
 
 // A refusal: its number, and an answer without fields.
 pub fn refuse(answer: &mut [u8], why: Refusal) -> u32

@@ -4,9 +4,9 @@
 // answers into the buffer and the number. One contract for all, without a `requires`: the number, the state left and the buffer left are what `entered`
 // says of the rules' own call. `rt staticlib driver` exports only this crate's functions, which is why they stand by themselves.
 use answers::bits_of;
-use answers::clear;
 use answers::give;
 use answers::refuse;
+use octets::clear::clear;
 use octets::low_first::write_u64;
 use spread::LeadAnswer;
 use spread::TermAnswer;
@@ -40,7 +40,7 @@ pub extern "C" fn uplink_start(state: &mut [u8]) -> u32
 {
     match uplink::open::start(state) {
         StartAnswer::Started => 0,
-        StartAnswer::Refused(why) => answers::number_of(why),
+        StartAnswer::Refused(why) => uplink::number_of(why),
     }
 }
 

@@ -14,24 +14,7 @@ use uplink::NextAnswer;
 use uplink::OpenAnswer;
 use uplink::PutAnswer;
 use uplink::Refusal;
-
-// The number of a refusal, by document 01's table.
-fn number_of(why: Refusal) -> u32
-    ensures { λ r. ⌜ r ≡ numberOf (refusalTold why) ⌝ }
-{
-    match why {
-        Refusal::NoSlot => 1,
-        Refusal::NotPresent => 2,
-        Refusal::AtClosing => 3,
-        Refusal::BadLength => 4,
-        Refusal::Full => 5,
-        Refusal::BadWeight => 6,
-        Refusal::NoneFree => 7,
-        Refusal::NoneWaits => 8,
-        Refusal::NoRow => 9,
-        Refusal::Unsound => 10,
-    }
-}
+use uplink::number_of;
 
 // `R` and the number.
 fn print_refusal(out: &mut [u8], at: usize, why: Refusal) -> usize

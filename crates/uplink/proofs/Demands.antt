@@ -24,14 +24,13 @@ use Rattle.memory.specs.SoundMemory.{memory-sound}
 use Rattle.memory.specs.OnLaws.{on-memory}
 use Rattle.memory.specs.Fresh.{zeros-sound, zeros-fresh}
 use Rattle.promises.specs.Histories.{takes, sends, gives, along, nextSerial, NoStart, numberBy, names, turns}
-use Rattle.promises.specs.Rounds.{Starts, oneSent, visitOf, costOf, Waits}
+use Rattle.promises.specs.Rounds.{Starts, oneSent, visitOf, costOf, Waits, perPosition}
 use Rattle.promises.proofs.Records.{records-from, records-kept, gone-sent}
 use Rattle.promises.proofs.Serials.{serials-in-turn}
 use Rattle.promises.proofs.Tickets.{ticketOf, tickets-in-turn, given-once}
 use Rattle.promises.proofs.OldTickets.{Lapsed, given-refused}
 use Rattle.promises.proofs.Rounds.{visited-by-weight, two-channels-near}
 use Rattle.promises.proofs.Bytes.{bytes-by-weight}
-use Rattle.promises.proofs.Left.{perPosition}
 use Rattle.promises.proofs.Ends.{round-ends}
 use Rattle.promises.proofs.Reached.{round-reached}
 use Rattle.promises.proofs.Terms.{one-record-two-terms}

@@ -3,6 +3,9 @@
 // Each takes the memory and any numbers, checks the memory whole, refuses in document 01's order of checks, and otherwise acts by a few loads and
 // stores. One contract for all: the answer and the bytes left together equal what the rules' own function does, seen through the memory (`on`). No call
 // has a `requires`. The files stand in the order in which a record meets them.
+ghost use mathlib.Core.Path.{_≡_};
+ghost use Rattle.spread.specs.Answer.{numberOf};
+ghost use Rattle.uplink.specs.Told.{refusalTold};
 
 pub mod lookup; // lookup.rt: the channel that a slot and a ticket name
 pub mod open; // open.rt: start and open
@@ -25,6 +28,24 @@ pub enum Refusal {
     NoneWaits,
     NoRow,
     Unsound,
+}
+
+// The number of a refusal, by document 01's table.
+pub fn number_of(why: Refusal) -> u32
+    ensures { λ r. ⌜ r ≡ numberOf (refusalTold why) ⌝ }
+{
+    match why {
+        Refusal::NoSlot => 1,
+        Refusal::NotPresent => 2,
+        Refusal::AtClosing => 3,
+        Refusal::BadLength => 4,
+        Refusal::Full => 5,
+        Refusal::BadWeight => 6,
+        Refusal::NoneFree => 7,
+        Refusal::NoneWaits => 8,
+        Refusal::NoRow => 9,
+        Refusal::Unsound => 10,
+    }
 }
 
 pub enum StartAnswer {

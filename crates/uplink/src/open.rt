@@ -9,10 +9,10 @@ use memory::heads::store_head;
 use memory::layout::LENGTH;
 use memory::layout::SLOTS;
 use memory::search::lowest_of;
+use octets::clear::clear;
 use spread::bad_weight;
 ghost use mathlib.Core.Path.{_≡_};
 ghost use mathlib.Core.Bool.{true};
-ghost use lib.ListN.{length, replicate};
 ghost use Rattle.rules.specs.Calls.{openCall};
 ghost use Rattle.memory.specs.Reading.{stateOf};
 ghost use Rattle.memory.specs.Memory.{soundBytes, replied, on, startOn};
@@ -27,17 +27,6 @@ pub fn start(state: &mut [u8]) -> StartAnswer
     }
     clear(state);
     StartAnswer::Started
-}
-
-// Each byte is 0.
-fn clear(state: &mut [u8])
-    ensures { λ _. ⌜ now (state .exit) ≡ replicate (length (now (state .entry))) 0 ⌝ }
-{
-    let mut i = 0;
-    while i < state.len() {
-        state[i] = 0;
-        i += 1;
-    }
 }
 
 // Open takes the lowest slot that is free and whose ticket isn't the last, and answers it with its new ticket.
