@@ -9,11 +9,12 @@ pub const LENGTH: usize = 7_040;
 pub const PLACES: usize = 1_024;
 
 /// "byte j of lane i of a field" stands at start + lanes * j + i.
-struct Field {
-    name: &'static str,
-    start: usize,
-    lanes: usize,
-    width: usize,
+pub struct Field {
+    pub name: &'static str,
+    pub start: usize,
+    pub lanes: usize,
+    /// Bytes a lane, so many lines of bytes too.
+    pub width: usize,
 }
 
 const fn field(name: &'static str, start: usize, lanes: usize, width: usize) -> Field {
@@ -37,7 +38,8 @@ const NOTHING: Field = field("nothing", 846, 50, 1);
 const LENGTHS: Field = field("length", 896, 1_024, 2);
 const REFERENCES: Field = field("reference", 2_944, 1_024, 4);
 
-const FIELDS: [&Field; 16] = [
+/// Every field, in the order of their places: together they are the whole memory.
+pub const FIELDS: [&Field; 16] = [
     &ROWS,
     &KIND,
     &WAITING,
@@ -57,6 +59,11 @@ const FIELDS: [&Field; 16] = [
 ];
 
 impl Field {
+    /// How many bytes of the memory it takes.
+    pub const fn length(&self) -> usize {
+        self.lanes * self.width
+    }
+
     /// Writes the number's lowest bytes; a lane that the field does not have is left out.
     fn write(&self, bytes: &mut [u8], lane: usize, number: u64) {
         if lane < self.lanes {
@@ -70,7 +77,7 @@ impl Field {
 /// What stands at a place of the memory, in words.
 pub fn name_of(place: usize) -> String {
     for field in FIELDS {
-        if place >= field.start && place < field.start + field.lanes * field.width {
+        if place >= field.start && place < field.start + field.length() {
             let (byte, lane) = ((place - field.start) / field.lanes, (place - field.start) % field.lanes);
             return format!("{}, lane {lane}, byte {byte}", field.name);
         }

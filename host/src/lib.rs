@@ -7,6 +7,7 @@
 //! - [`engine`], [`model`], [`history`], [`compare`], [`shrink`]: an engine under test is run beside the independent scheduler, call by
 //!   call, and every byte is compared.
 //! - [`random`], [`states`], [`damage`], [`shapes`], [`generate`]: what the compared runs are fed with.
+//! - [`plain`]: plain deficit round robin, to measure against; `pictures` (feature `linked`): the pictures in docs/.
 //! - [`lift`], [`texts`]: the command program's text, from input bytes to output bytes, and texts to compare a real `lift` with.
 
 pub mod answers;
@@ -21,6 +22,9 @@ pub mod history;
 pub mod layout;
 pub mod lift;
 pub mod model;
+#[cfg(feature = "linked")]
+pub mod pictures;
+pub mod plain;
 pub mod random;
 pub mod scheduler;
 pub mod shapes;

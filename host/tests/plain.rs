@@ -1,0 +1,97 @@
+//! Plain deficit round robin is what the literature says: a quantum by weight, a deficit that is kept, a list in the order of joining.
+
+use host::plain::{Plain, Sent};
+use host::random::Random;
+use host::scheduler::{Scheduler, GRANT, LONGEST, MOST_WAITING};
+
+/// Channels of these weights, each with records of these lengths.
+fn filled(weights: &[u64], lengths: &[u64]) -> Plain {
+    let mut plain = Plain::default();
+    for &weight in weights {
+        let slot = plain.open(weight);
+        lengths.iter().for_each(|&length| plain.put(slot, length));
+    }
+    plain
+}
+
+fn slots(plain: &mut Plain, sends: usize) -> Vec<usize> {
+    (0..sends).map(|_| plain.next().unwrap().slot).collect()
+}
+
+/// Document 000, section 1: "a continuous period of time in proportion to the weight of the flow".
+#[test]
+fn a_quantum_by_weight_in_one_go() {
+    let mut plain = filled(&[1, 4, 8, 3], &[1_024; 16]);
+    let round = [0, 1, 1, 1, 1, 2, 2, 2, 2, 2, 2, 2, 2, 3, 3, 3];
+    assert_eq!(slots(&mut plain, 16), round);
+    assert_eq!(slots(&mut plain, 16), round);
+}
+
+/// What a visit leaves is added to the next quantum: 1,024 - 600 = 424, and 424 + 1,024 is enough for two records of 600.
+#[test]
+fn the_rest_is_kept_while_records_wait() {
+    let mut plain = filled(&[1, 1], &[600, 600, 600, 600]);
+    assert_eq!(plain.next(), Some(Sent { slot: 0, length: 600, started: true }));
+    assert_eq!(plain.channels[0].deficit, 424);
+    assert_eq!(slots(&mut plain, 6), [1, 0, 0, 1, 1, 0]);
+    assert_eq!(plain.channels[1].deficit, 248);
+}
+
+#[test]
+fn an_emptied_channel_leaves_without_its_rest_and_joins_at_the_end() {
+    let mut plain = filled(&[2, 1, 1], &[100]);
+    plain.put(1, 1_000);
+    assert_eq!(plain.next(), Some(Sent { slot: 0, length: 100, started: true }));
+    assert_eq!((plain.channels[0].deficit, plain.visit), (0, false));
+    plain.put(0, 1);
+    assert_eq!(plain.rows, [1, 2, 0]);
+    assert_eq!(slots(&mut plain, 4), [1, 2, 0, 1]);
+    assert_eq!(plain.next(), None);
+    assert_eq!(plain, filled(&[2, 1, 1], &[]));
+}
+
+/// Over any number of visits a channel that always has records sends its quanta less the rest, and the rest is below the longest record.
+#[test]
+fn bytes_by_quantum_for_any_lengths() {
+    let mut random = Random::new(51);
+    let weights = [5, 1, 3];
+    let mut plain = filled(&weights, &[]);
+    let mut length = || random.from_to(1, LONGEST);
+    for slot in 0..weights.len() {
+        (0..MOST_WAITING).for_each(|_| plain.put(slot, length()));
+    }
+    let (mut visits, mut bytes) = ([0; 3], [0; 3]);
+    for _ in 0..20_000 {
+        let sent = plain.next().unwrap();
+        visits[sent.slot] += u64::from(sent.started);
+        bytes[sent.slot] += sent.length;
+        plain.put(sent.slot, length());
+        let rest = plain.channels[sent.slot].deficit;
+        assert_eq!(bytes[sent.slot] + rest, visits[sent.slot] * weights[sent.slot] * GRANT);
+        assert!(plain.visit || rest < LONGEST);
+        // A round visits each channel once.
+        assert!(visits[0] - visits[2] <= 1 && visits[0] >= visits[1] && visits[1] >= visits[2]);
+    }
+}
+
+/// With weights of 1 there is nothing to smooth: the independent scheduler and this one send alike.
+#[test]
+fn weights_of_1_are_served_alike() {
+    let mut random = Random::new(52);
+    let (mut scheduler, mut plain) = (Scheduler::start(), filled(&[1; 7], &[]));
+    for slot in 0..7 {
+        scheduler.open(1).unwrap();
+        for reference in 0..8 {
+            let length = random.from_to(1, LONGEST);
+            scheduler.put(slot, 1, length as u32, reference).unwrap();
+            plain.put(slot as usize, length);
+        }
+    }
+    for _ in 0..2_000 {
+        let (sent, expected) = (scheduler.next().unwrap(), plain.next().unwrap());
+        assert_eq!((sent.slot as usize, u64::from(sent.length), sent.started), (expected.slot, expected.length, expected.started));
+        let length = random.from_to(1, LONGEST);
+        scheduler.put(sent.slot, 1, length as u32, 0).unwrap();
+        plain.put(expected.slot, length);
+    }
+}
