@@ -1,12 +1,13 @@
 -- Tests of bytes that are tests of numbers. Assumes nothing.
-use Prim.Native.Nat.{ℕ, _+_, _*_, _≤_, _<_}
+use Prim.Native.Nat.{ℕ, _+_, _*_, _%_, _≤_, _<_}
 use mathlib.Core.Path.{_≡_, refl, sym, ap, _∙_}
 use mathlib.Core.Bool.{Bool, true, false, not, _&&_, _||_, false≢true}
 use native.Mathlib.Omega.{arith}
+use lib.Bits.{bitOr, or-zero-l, or-add-and, and-le-l, and-le-r}
 use lib.Dec.{leb, eqb}
-use borrow.Author.Tests.{eqb-true, eqb-false, eq-eqb, ne-eqb, leb-true, leb-false, le-leb, lt-leb}
+use borrow.Author.Tests.{eqb-true, eqb-false, eq-eqb, leb-true, le-leb, lt-leb}
 use Rattle.bits.specs.Slots.{oneIf}
-use Rattle.memory.specs.Check.{headOf, headRule, sizeRule, onceRule}
+use Rattle.memory.specs.Check.{headOf, headRule, sizeRule, emptyRule, onceRule}
 
 -- ---- tests
 
@@ -35,13 +36,15 @@ or-unless false b f = f refl
 
 -- ---- a number of two or four bytes is 0, or at least 1
 
+-- x is 0 exactly if a and b are
+zero-both : (x a b : ℕ) → (a ≡ 0 → b ≡ 0 → x ≡ 0) → (x ≡ 0 → a ≡ 0) → (x ≡ 0 → b ≡ 0) → eqb x 0 ≡ (eqb a 0 && eqb b 0)
+zero-both x a b f g h =
+    same-bool (eqb x 0) (eqb a 0 && eqb b 0)
+    (λ p. true-both (eq-eqb a 0 (g (eqb-true x 0 p))) (eq-eqb b 0 (h (eqb-true x 0 p))))
+    (λ p. let (q, r) = both-true (eqb a 0) (eqb b 0) p in eq-eqb x 0 (f (eqb-true a 0 q) (eqb-true b 0 r)))
+
 eq-zero : (a b : ℕ) → eqb (a + 256 * b) 0 ≡ (eqb a 0 && eqb b 0)
-eq-zero a b = go (eqb a 0) refl (eqb b 0) refl
-  where
-    go : (p : Bool) → eqb a 0 ≡ p → (q : Bool) → eqb b 0 ≡ q → eqb (a + 256 * b) 0 ≡ (p && q)
-    go true e true f = eq-eqb (a + 256 * b) 0 (omega (arith, eqb-true a 0 e, eqb-true b 0 f))
-    go true e false f = ne-eqb (a + 256 * b) 0 (λ (z : a + 256 * b ≡ 0). eqb-false b 0 f (omega arith))
-    go false e q f = ne-eqb (a + 256 * b) 0 (λ (z : a + 256 * b ≡ 0). eqb-false a 0 e (omega arith))
+eq-zero a b = zero-both (a + 256 * b) a b (λ p q. omega arith) (λ p. omega arith) (λ p. omega arith)
 
 pub not-zero : (n : ℕ) → leb 1 n ≡ not (eqb n 0)
 not-zero n = go (eqb n 0) refl
@@ -79,24 +82,47 @@ four-some a b c d =
 pub high-leb : (a b m : ℕ) → a < 256 → leb (a + 256 * b) (256 * m + 255) ≡ leb b m
 high-leb a b m h = same-leb (a + 256 * b) (256 * m + 255) b m (λ p. omega arith) (λ p. omega arith)
 
-longest-law : (a b : ℕ) → a < 256 → leb (a + 256 * b) 1024 ≡ (leb b 3 || (eqb b 4 && eqb a 0))
-longest-law a b h = go (leb b 3) refl (eqb b 4) refl (eqb a 0) refl
-  where
-    over : (leb b 3 ≡ false) → (b ≡ 4 → ⊥) → 1024 < a + 256 * b
-    over e n = let l : 3 < b = leb-false b 3 e in omega arith
+-- ---- the rules of a record's cell, on its bytes
 
-    more : (a ≡ 0 → ⊥) → b ≡ 4 → 1024 < a + 256 * b
-    more n e = omega arith
+-- a length n is in range exactly if a byte is at most 3
+size-same : (n less : ℕ) → (less ≤ 3 → (1 ≤ n) × (n ≤ 1024)) → (1 ≤ n → n ≤ 1024 → less ≤ 3) → leb less 3 ≡ sizeRule n
+size-same n less f g =
+    same-bool (leb less 3) (sizeRule n)
+    (λ p. let (h, k) = f (leb-true less 3 p) in true-both (le-leb 1 n h) (le-leb n 1024 k))
+    (λ p. let (h, k) = both-true (leb 1 n) (leb n 1024) p in le-leb less 3 (g (leb-true 1 n h) (leb-true n 1024 k)))
 
-    go : (p : Bool) → leb b 3 ≡ p → (q : Bool) → eqb b 4 ≡ q → (r : Bool) → eqb a 0 ≡ r → leb (a + 256 * b) 1024 ≡ (p || (q && r))
-    go true e q f r g = le-leb (a + 256 * b) 1024 (omega (arith, leb-true b 3 e))
-    go false e true f true g = le-leb (a + 256 * b) 1024 (omega (arith, eqb-true b 4 f, eqb-true a 0 g))
-    go false e true f false g = lt-leb (a + 256 * b) 1024 (more (eqb-false a 0 g) (eqb-true b 4 f))
-    go false e false f r g = lt-leb (a + 256 * b) 1024 (over e (eqb-false b 4 f))
+-- that byte is the high one of the length less one: with a low byte of 0 it is one less, or 255 where the high byte is 0
+pub size-borrow : (low high less : ℕ) → low ≡ 0 → less < 256 → (less + 1) % 256 ≡ high → leb less 3 ≡ sizeRule (low + 256 * high)
+size-borrow low high less z l e = size-same (low + 256 * high) less (λ p. (omega arith, omega arith)) (λ p q. omega arith)
 
-pub size-law : (low high : ℕ) → low < 256
-    → ((not (eqb low 0) || not (eqb high 0)) && (leb high 3 || (eqb high 4 && eqb low 0))) ≡ sizeRule (low + 256 * high)
-size-law low high h = rw (two-some low high, longest-law low high h)
+-- and with any other it is the high byte itself
+pub size-keep : (low high : ℕ) → (low ≡ 0 → ⊥) → low < 256 → leb high 3 ≡ sizeRule (low + 256 * high)
+size-keep low high d l =
+    let some : 1 ≤ low = omega arith in
+    size-same (low + 256 * high) high (λ p. (omega arith, omega arith)) (λ p q. omega arith)
+
+-- a union of bits is 0 exactly if both numbers are
+or-zero : (a b : ℕ) → eqb (bitOr a b) 0 ≡ (eqb a 0 && eqb b 0)
+or-zero a b =
+    zero-both (bitOr a b) a b (λ p q. rw (p, q) (or-zero-l 0)) (λ p. omega (arith, or-add-and a b, and-le-r a b))
+    (λ p. omega (arith, or-add-and a b, and-le-l a b))
+
+-- the length and the reference of a cell are 0 exactly if the union of its bytes is
+pub empty-law : (s0 s1 r0 r1 r2 r3 : ℕ)
+    → eqb (bitOr (bitOr s0 s1) (bitOr r0 (bitOr r1 (bitOr r2 r3)))) 0
+    ≡ emptyRule (s0 + 256 * s1) (r0 + 256 * (r1 + 256 * (r2 + 256 * r3)))
+empty-law s0 s1 r0 r1 r2 r3 =
+    rw (
+      or-zero (bitOr s0 s1) (bitOr r0 (bitOr r1 (bitOr r2 r3))),
+      or-zero s0 s1,
+      or-zero r0 (bitOr r1 (bitOr r2 r3)),
+      or-zero r1 (bitOr r2 r3),
+      or-zero r2 r3,
+      eq-zero s0 s1,
+      eq-zero r0 (r1 + 256 * (r2 + 256 * r3)),
+      eq-zero r1 (r2 + 256 * r3),
+      eq-zero r2 r3,
+    )
 
 -- ---- the rules of a head, on its bytes
 

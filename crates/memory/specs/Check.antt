@@ -73,19 +73,25 @@ sizeRule n = leb 1 n && leb n longest
 unfoldable pub sizesRule : List ℕ → ℕ → Bool
 sizesRule b total = allBelow total (λ p. sizeRule (sizeAt b p))
 
+-- the reference in cell p
+unfoldable pub referenceAt : List ℕ → ℕ → ℕ
+referenceAt b p = num (upward (2944 + p) 1024) 4 b
+
+-- a cell of the records that holds none: its length and its reference are 0
+abbrev pub emptyRule : ℕ → ℕ → Bool
+emptyRule size reference = eqb size 0 && eqb reference 0
+
+-- the cells behind the first `total` hold no record
+unfoldable pub behindRule : List ℕ → ℕ → Bool
+behindRule b total = allBelow (1024 - total) (λ k. emptyRule (sizeAt b (total + k)) (referenceAt b (total + k)))
+
+-- the first `total` cells hold records, and no other does
+unfoldable pub recordsRule : List ℕ → ℕ → Bool
+recordsRule b total = sizesRule b total && behindRule b total
+
 -- the n bytes from a place on are 0
 unfoldable pub clear : List ℕ → ℕ → ℕ → Bool
 clear b from n = allBelow n (λ k. eqb (getD b (from + k) 0) 0)
-
--- each line of 1,024 is clear behind the first `total` bytes
-unfoldable pub recordsRule : List ℕ → ℕ → Bool
-recordsRule b total =
-    sizesRule b total
-    && (clear b (896 + total) (1024 - total)
-    && (clear b (1920 + total) (1024 - total)
-    && (clear b (2944 + total) (1024 - total)
-    && (clear b (3968 + total) (1024 - total)
-    && (clear b (4992 + total) (1024 - total) && clear b (6016 + total) (1024 - total))))))
 
 -- ---- rows
 

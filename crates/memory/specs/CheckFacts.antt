@@ -1,5 +1,5 @@
 -- The check as named facts: each rule of the check on the numbers read, in the order of the layout. Assumes nothing.
-use Prim.Native.Nat.{ℕ, zero, suc, _+_, _-_, _*_, _^_, _≤_, _<_}
+use Prim.Native.Nat.{ℕ, zero, suc, _+_, _-_, _^_, _≤_, _<_}
 use mathlib.Core.Path.{_≡_, refl}
 use mathlib.Core.Bool.{Bool, true, false, not, cond, _&&_}
 use mathlib.Core.List.{List, [], _∷_}
@@ -11,15 +11,15 @@ use Rattle.bits.specs.Bit.{bit}
 use Rattle.bits.specs.BitLaws.{bit-lt, bit-none}
 use Rattle.bits.specs.Order.{order}
 use Rattle.bits.specs.Slots.{oneIf}
-use Rattle.octets.specs.Number.{upward, num, Bytes}
+use Rattle.octets.specs.Number.{upward, Bytes}
 use Rattle.octets.specs.NumberLaws.{num-lt}
 use Rattle.rules.proofs.TestLists.{Hold}
 use Rattle.memory.specs.Layout.{memoryLength}
 use Rattle.memory.specs.Reading.{waitingAt, firstAt}
-use Rattle.memory.specs.Check.{deficitAt, sizeAt, maskAt, positionAt, headAt, headsRule, sizesRule, clear, recordsRule, found, belowRule, countedRule, rowsRule, union, orderRule, columnMask, maskWithin, toVisitRule, calm, visitedRule, deficitsRule, scanRule}
+use Rattle.memory.specs.Check.{deficitAt, sizeAt, maskAt, positionAt, headAt, headsRule, referenceAt, emptyRule, behindRule, recordsRule, clear, found, belowRule, countedRule, rowsRule, union, orderRule, columnMask, maskWithin, toVisitRule, calm, visitedRule, deficitsRule, scanRule}
 use Rattle.memory.specs.ColumnMasks.{within-bits, bits-within, column-mask-lt}
 use Rattle.memory.specs.ByteTests.{both-true, true-both}
-use Rattle.memory.specs.NumbersRead.{num-four, deficit-read}
+use Rattle.memory.specs.NumbersRead.{deficit-read}
 use Rattle.memory.specs.CheckTurns.{all-at, all-intro}
 use Rattle.memory.specs.HeadFacts.{HeadFacts, some-not, not-some}
 
@@ -41,9 +41,6 @@ hold-every (x ∷ []) h = h .0
 hold-every (x ∷ y ∷ ys) h = true-both (h .0) (hold-every (y ∷ ys) (h .1))
 
 -- ---- the facts
-
-abbrev pub referenceAt : List ℕ → ℕ → ℕ
-referenceAt b p = num (upward (2944 + p) 1024) 4 b
 
 pub record Visited (b : List ℕ) (v : ℕ) : Type 0 where
   pub slot : v < 64
@@ -81,20 +78,23 @@ pub at-clear : (b : List ℕ) (from n : ℕ) → ((k : ℕ) → k < n → getD b
 unfolding clear
 at-clear b from n h = all-intro n (λ k. eqb (getD b (from + k) 0) 0) (λ k l. eq-eqb _ _ (h k l))
 
--- a line of 1,024 that is clear behind total, at a place p of it
-pub line-at : (b : List ℕ) (q total p : ℕ) → clear b (q + total) (1024 - total) ≡ true → total ≤ p → p < 1024 → getD b (q + p) 0 ≡ 0
-line-at b q total p e l h =
-    let at : q + total + (p - total) ≡ q + p = omega arith in
-    rw at at (clear-at b (q + total) (1024 - total) e (p - total) (omega arith))
+-- the cells behind total are empty, at a place p behind it
+pub empty-at : (b : List ℕ) (total p : ℕ) → behindRule b total ≡ true → total ≤ p → p < 1024 → (sizeAt b p ≡ 0) × (referenceAt b p ≡ 0)
+unfolding behindRule
+empty-at b total p e l h =
+    let at : total + (p - total) ≡ p = omega arith in
+    let (size, reference)
+    = both-true (eqb (sizeAt b p) 0) (eqb (referenceAt b p) 0)
+    (rw at at (all-at (1024 - total) (λ k. emptyRule (sizeAt b (total + k)) (referenceAt b (total + k))) e (p - total) (omega arith))) in
+    (eqb-true _ _ size, eqb-true _ _ reference)
 
-pub at-line : (b : List ℕ) (q total : ℕ) → ((p : ℕ) → total ≤ p → p < 1024 → getD b (q + p) 0 ≡ 0) → clear b (q + total) (1024 - total) ≡ true
-at-line b q total h =
-    at-clear b (q + total) (1024 - total)
-    (λ k l. let at : q + total + k ≡ q + (total + k) = omega arith in rw at (h (total + k) (omega arith) (omega arith)))
-
-pub reference-read : (b : List ℕ) (p : ℕ)
-    → referenceAt b p ≡ getD b (2944 + p) 0 + 256 * (getD b (3968 + p) 0 + 256 * (getD b (4992 + p) 0 + 256 * getD b (6016 + p) 0))
-reference-read b p = num-four (2944 + p) (3968 + p) (4992 + p) (6016 + p) 1024 b (omega arith) (omega arith) (omega arith)
+pub at-empty : (b : List ℕ) (total : ℕ) → ((p : ℕ) → total ≤ p → p < 1024 → sizeAt b p ≡ 0) → ((p : ℕ) → total ≤ p → p < 1024 → referenceAt b p ≡ 0)
+    → behindRule b total ≡ true
+unfolding behindRule
+at-empty b total sizes references =
+    all-intro (1024 - total) (λ k. emptyRule (sizeAt b (total + k)) (referenceAt b (total + k)))
+    (λ k l.
+    true-both (eq-eqb _ _ (sizes (total + k) (omega arith) (omega arith))) (eq-eqb _ _ (references (total + k) (omega arith) (omega arith))))
 
 resting-at : (b : List ℕ) → Bytes b → (from n : ℕ) → calm b (640 + from) n ≡ true → (i : ℕ) → from ≤ i → i < from + n → deficitAt b i ≤ 1023
 unfolding calm
@@ -118,17 +118,6 @@ at-resting b from n h =
 abbrev pub wholeTests : List ℕ → List Bool
 wholeTests b =
     eqb (length b) memoryLength ∷ headsRule b ∷ recordsRule b (firstAt b 64) ∷ rowsRule b (getD b 832 0) ∷ scanRule b (getD b 832 0) ∷ []
-
-abbrev pub recordTests : List ℕ → ℕ → List Bool
-recordTests b total =
-    sizesRule b total
-    ∷ clear b (896 + total) (1024 - total)
-    ∷ clear b (1920 + total) (1024 - total)
-    ∷ clear b (2944 + total) (1024 - total)
-    ∷ clear b (3968 + total) (1024 - total)
-    ∷ clear b (4992 + total) (1024 - total)
-    ∷ clear b (6016 + total) (1024 - total)
-    ∷ []
 
 abbrev pub rowTests : List ℕ → ℕ → List Bool
 rowTests b n = leb n 64 ∷ belowRule b n ∷ clear b n (64 - n) ∷ countedRule b n ∷ []

@@ -1,5 +1,5 @@
 -- A memory passes the check exactly if the facts of the check hold of it. Assumes nothing.
-use Prim.Native.Nat.{ℕ, _+_, _-_, _*_, _^_, _≤_, _<_}
+use Prim.Native.Nat.{ℕ, _+_, _-_, _^_, _≤_, _<_}
 use mathlib.Core.Path.{_≡_}
 use mathlib.Core.Bool.{true}
 use mathlib.Core.List.{List, [], _∷_}
@@ -14,12 +14,11 @@ use Rattle.bits.specs.OrderLaws.{order-lt, order-le}
 use Rattle.octets.specs.Number.{Bytes}
 use Rattle.rules.proofs.TestLists.{Hold}
 use Rattle.memory.specs.Reading.{waitingAt, firstAt}
-use Rattle.memory.specs.Check.{sizeAt, positionAt, headAt, headRule, headsRule, sizeRule, sizesRule, clear, recordsRule, found, onceRule, belowRule, countedRule, rowsRule, union, orderRule, scanRule, checked}
-use Rattle.memory.specs.ByteTests.{true-both}
-use Rattle.memory.specs.NumbersRead.{size-read}
+use Rattle.memory.specs.Check.{sizeAt, positionAt, headAt, headRule, headsRule, sizeRule, sizesRule, behindRule, recordsRule, clear, found, onceRule, belowRule, countedRule, rowsRule, union, orderRule, scanRule, checked}
+use Rattle.memory.specs.ByteTests.{both-true, true-both}
 use Rattle.memory.specs.CheckTurns.{all-at, all-intro}
 use Rattle.memory.specs.HeadFacts.{facts-head, heads-at}
-use Rattle.memory.specs.CheckFacts.{every-hold, hold-every, referenceAt, Passed, clear-at, at-clear, line-at, at-line, reference-read, wholeTests, recordTests, rowTests, scanTests, deficits-visit, deficits-resting, visit-deficits, to-visit-mask, to-visit-none, to-visit-narrow, mask-to-visit}
+use Rattle.memory.specs.CheckFacts.{every-hold, hold-every, Passed, clear-at, at-clear, empty-at, at-empty, wholeTests, rowTests, scanTests, deficits-visit, deficits-resting, visit-deficits, to-visit-mask, to-visit-none, to-visit-narrow, mask-to-visit}
 
 position-lt : (p k : ℕ) → order p ≤ k → p < 2 ^ k
 position-lt p k h = lt-of-lt-of-le (order-lt p) (pow-mono h)
@@ -30,27 +29,19 @@ checked-passed b bytes e =
     let total = firstAt b 64 in
     let n = getD b 832 0 in
     let h = every-hold (wholeTests b) e in
-    let r = every-hold (recordTests b total) (h .1 .1 .0) in
+    let (sized, ended) = both-true (sizesRule b total) (behindRule b total) (h .1 .1 .0) in
     let w = every-hold (rowTests b n) (h .1 .1 .1 .0) in
     let s = every-hold (scanTests b n) (h .1 .1 .1 .1 .0) in
     let o = every-hold (eqb (getD b 833 0) (order (union b n)) ∷ leb (order (positionAt b)) (getD b 833 0) ∷ []) (s .0) in
     let few : n ≤ 64 = leb-true n 64 (w .0) in
     let sizes : (p : ℕ) → p < total → Hold (leb 1 (sizeAt b p) ∷ leb (sizeAt b p) 1024 ∷ [])
-    = λ p l. every-hold (leb 1 (sizeAt b p) ∷ leb (sizeAt b p) 1024 ∷ []) (all-at total (λ p. sizeRule (sizeAt b p)) (r .0) p l) in
+    = λ p l. every-hold (leb 1 (sizeAt b p) ∷ leb (sizeAt b p) 1024 ∷ []) (all-at total (λ p. sizeRule (sizeAt b p)) sized p l) in
     record {
       size = eqb-true _ _ (h .0);
       head = heads-at b (h .1 .0);
       sizes = λ p l. (leb-true _ _ (sizes p l .0), leb-true _ _ (sizes p l .1 .0));
-      sizes-end = λ p l m. omega (arith, size-read b p, line-at b 896 total p (r .1 .0) l m, line-at b 1920 total p (r .1 .1 .0) l m);
-      references-end = λ p l m.
-          omega (
-            arith,
-            reference-read b p,
-            line-at b 2944 total p (r .1 .1 .1 .0) l m,
-            line-at b 3968 total p (r .1 .1 .1 .1 .0) l m,
-            line-at b 4992 total p (r .1 .1 .1 .1 .1 .0) l m,
-            line-at b 6016 total p (r .1 .1 .1 .1 .1 .1 .0) l m,
-          );
+      sizes-end = λ p l m. empty-at b total p ended l m .0;
+      references-end = λ p l m. empty-at b total p ended l m .1;
       few = few;
       below = λ k l. ltb-true _ _ (all-at n (λ k. ltb (getD b k 0) 64) (w .1 .0) k l);
       rows-end = λ k l m.
@@ -69,12 +60,6 @@ checked-passed b bytes e =
 
 -- ---- and back
 
-zero-two : (x a c : ℕ) → x ≡ a + 256 * c → x ≡ 0 → (a ≡ 0) × (c ≡ 0)
-zero-two x a c e z = (omega arith, omega arith)
-
-zero-four : (x a c d f : ℕ) → x ≡ a + 256 * (c + 256 * (d + 256 * f)) → x ≡ 0 → (a ≡ 0) × (c ≡ 0) × (d ≡ 0) × (f ≡ 0)
-zero-four x a c d f e z = (omega arith, omega arith, omega arith, omega arith)
-
 pub passed-checked : (b : List ℕ) → Bytes b → Passed b → checked b ≡ true
 unfolding checked headsRule recordsRule rowsRule scanRule orderRule sizesRule belowRule countedRule
 passed-checked b bytes P =
@@ -82,28 +67,7 @@ passed-checked b bytes P =
     let n = getD b 832 0 in
     let heads = all-intro 64 (λ i. headRule (headAt b i)) (λ i l. facts-head (headAt b i) (P .head i l)) in
     let sizes = all-intro total (λ p. sizeRule (sizeAt b p)) (λ p l. true-both (le-leb _ _ (P .sizes p l .0)) (le-leb _ _ (P .sizes p l .1))) in
-    let two : (p : ℕ) → total ≤ p → p < 1024 → (getD b (896 + p) 0 ≡ 0) × (getD b (1920 + p) 0 ≡ 0)
-    = λ p l m. zero-two (sizeAt b p) _ _ (size-read b p) (P .sizes-end p l m) in
-    let four : (p : ℕ) → total ≤ p → p < 1024
-    → (getD b (2944 + p) 0 ≡ 0) × (getD b (3968 + p) 0 ≡ 0) × (getD b (4992 + p) 0 ≡ 0) × (getD b (6016 + p) 0 ≡ 0)
-    = λ p l m. zero-four (referenceAt b p) _ _ _ _ (reference-read b p) (P .references-end p l m) in
-    let records : recordsRule b total ≡ true
-    = hold-every (recordTests b total) (
-      sizes,
-      (
-        at-line b 896 total (λ p l m. two p l m .0),
-        (
-          at-line b 1920 total (λ p l m. two p l m .1),
-          (
-            at-line b 2944 total (λ p l m. four p l m .0),
-            (
-              at-line b 3968 total (λ p l m. four p l m .1),
-              (at-line b 4992 total (λ p l m. four p l m .2), (at-line b 6016 total (λ p l m. four p l m .3), tt)),
-            ),
-          ),
-        ),
-      ),
-    ) in
+    let records : recordsRule b total ≡ true = true-both sizes (at-empty b total (P .sizes-end) (P .references-end)) in
     let below = all-intro n (λ k. ltb (getD b k 0) 64) (λ k l. lt-ltb _ _ (P .below k l)) in
     let rest : clear b n (64 - n) ≡ true = at-clear b n (64 - n) (λ k l. P .rows-end (n + k) (omega arith) (omega (arith, P .few))) in
     let counted = all-intro 64 (λ i. onceRule (found b i n) (waitingAt b i)) (λ i l. eq-eqb _ _ (P .counted i l)) in

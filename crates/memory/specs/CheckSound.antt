@@ -29,7 +29,7 @@ use Rattle.memory.specs.Reading.{kindOf, visitOf, waitingAt, firstAt, re
 use Rattle.memory.specs.Memory.{soundBytes}
 use Rattle.memory.specs.BytesOfState.{OnlyState}
 use Rattle.memory.specs.SoundBytes.{sound-bytes}
-use Rattle.memory.specs.Check.{weightAt, deficitAt, sizeAt, maskAt, positionAt, headAt}
+use Rattle.memory.specs.Check.{weightAt, deficitAt, sizeAt, maskAt, positionAt, headAt, referenceAt}
 use Rattle.memory.specs.ColumnMasks.{column-mask-from}
 use Rattle.memory.specs.RowsRead.{empty-tab, occurs-rows, rows-high, found-lt, union-order, keep-within, empty-occurs}
 use Rattle.memory.specs.HeadFacts.{first-le}
@@ -197,7 +197,7 @@ module _ (b : List ℕ) (bytes : Bytes b) (P : Passed b) where
   -- ---- nothing beside it
 
   only-state : OnlyState b
-  unfolding headAt maskAt sizeAt
+  unfolding headAt maskAt sizeAt referenceAt
   only-state =
       record {
         kinds = λ i l. P .head i l .kind;

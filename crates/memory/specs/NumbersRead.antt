@@ -6,7 +6,7 @@ use native.Mathlib.Omega.{arith}
 use lib.ListN.{getD}
 use Rattle.octets.specs.Number.{upward, num}
 use Rattle.octets.specs.NumberLaws.{num-one, num-upward}
-use Rattle.memory.specs.Check.{headOf, headAt, weightAt, deficitAt, sizeAt}
+use Rattle.memory.specs.Check.{headOf, headAt, weightAt, deficitAt, sizeAt, referenceAt}
 
 pub num-two : (p q t : ℕ) (b : List ℕ) → p + t ≡ q → num (upward p t) 2 b ≡ getD b p 0 + 256 * getD b q 0
 num-two p q t b e =
@@ -30,6 +30,11 @@ deficit-read b i = num-two (576 + i) (640 + i) 64 b (omega arith)
 pub size-read : (b : List ℕ) (p : ℕ) → sizeAt b p ≡ getD b (896 + p) 0 + 256 * getD b (1920 + p) 0
 unfolding sizeAt
 size-read b p = num-two (896 + p) (1920 + p) 1024 b (omega arith)
+
+pub reference-read : (b : List ℕ) (p : ℕ)
+    → referenceAt b p ≡ getD b (2944 + p) 0 + 256 * (getD b (3968 + p) 0 + 256 * (getD b (4992 + p) 0 + 256 * getD b (6016 + p) 0))
+unfolding referenceAt
+reference-read b p = num-four (2944 + p) (3968 + p) (4992 + p) (6016 + p) 1024 b (omega arith) (omega arith) (omega arith)
 
 pub head-read : (b : List ℕ) (i : ℕ)
     → headAt b i

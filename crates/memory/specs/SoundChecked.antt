@@ -34,7 +34,7 @@ use Rattle.memory.specs.SoundMemory.{SoundMemory, memory-sound}
 use Rattle.memory.specs.BytesOfState.{OnlyState}
 use Rattle.memory.specs.SoundBytes.{sound-only}
 use Rattle.memory.specs.Lanes.{mask-is}
-use Rattle.memory.specs.Check.{weightAt, deficitAt, sizeAt, maskAt, positionAt, headAt, found, columnMask}
+use Rattle.memory.specs.Check.{weightAt, deficitAt, sizeAt, maskAt, positionAt, headAt, referenceAt, found, columnMask}
 use Rattle.memory.specs.HeadFacts.{HeadFacts}
 use Rattle.memory.specs.CheckFacts.{Visited, Passed}
 use Rattle.memory.specs.ColumnMasks.{column-mask-has}
@@ -206,7 +206,7 @@ module _ (b : List ℕ) (sound : soundBytes b ≡ true) where
   resting i l d = rw (not-visited (getD b 845 0) i d) at (slot-read i l .due)
 
   pub memory-passed : Passed b
-  unfolding sizeAt positionAt stateOf
+  unfolding sizeAt referenceAt positionAt stateOf
   memory-passed =
       record {
         size = M .size;

@@ -2,10 +2,11 @@
 //
 // Each loop looks at every byte of its line and has no way out in the middle: the compiler turns such a loop into steps of 16 bytes.
 use super::layout;
+use std::num::wrapping_sub_u8;
 ghost use mathlib.Core.Path.{_≡_};
 ghost use Prim.Native.Nat.{_+_, _*_, _<_, _≤_};
 ghost use lib.ListN.{length};
-ghost use Rattle.memory.specs.Check.{headOf, headRule, headsRule, sizeRule, sizesRule, clear, recordsRule, calm};
+ghost use Rattle.memory.specs.Check.{headOf, headRule, headsRule, sizeRule, sizesRule, emptyRule, behindRule, recordsRule, clear, calm};
 
 // A byte as an index.
 pub fn wide(x: u8) -> usize
@@ -71,11 +72,16 @@ pub fn heads(state: &[u8]) -> bool
     ok
 }
 
-// Whether a record's length is 1 to 1,024, on its bytes.
+// Whether a record's length is 1 to 1,024, on its bytes: the length less one has a high byte of at most 3.
 fn size_ok(low: u8, high: u8) -> bool
     ensures { λ r. ⌜ r ≡ sizeRule (low + 256 * high) ⌝ }
 {
-    ((low != 0) | (high != 0)) & ((high <= 3) | ((high == 4) & (low == 0)))
+    let less = if low == 0 {
+        wrapping_sub_u8(high, 1)
+    } else {
+        high
+    };
+    less <= 3
 }
 
 // Whether the lengths of the first `total` records are in range.
@@ -96,6 +102,47 @@ fn sizes(state: &[u8], total: usize) -> bool
     ok
 }
 
+// Whether a cell of the records has length 0 and reference 0, on its bytes: the union of its bytes has no bit.
+fn is_empty(s0: u8, s1: u8, r0: u8, r1: u8, r2: u8, r3: u8) -> bool
+    ensures { λ r. ⌜ r ≡ emptyRule (s0 + 256 * s1) (r0 + 256 * (r1 + 256 * (r2 + 256 * r3))) ⌝ }
+{
+    ((s0 | s1) | (r0 | (r1 | (r2 | r3)))) == 0
+}
+
+// Whether the cells behind the first `total` records are empty.
+fn behind(state: &[u8], total: usize) -> bool
+    requires { ⌜ (length (now state) ≡ 7040) × (total ≤ 1024) ⌝ }
+    ensures { λ r. ⌜ r ≡ behindRule (now (state .entry)) total ⌝ }
+{
+    let rest = layout::RECORDS - total;
+    let mut ok = true;
+    let mut k = 0;
+    while k < rest {
+        let p = total + k;
+        ok = ok
+            & is_empty(
+                state[layout::SIZE + p],
+                state[layout::SIZE + layout::RECORDS + p],
+                state[layout::REFERENCE + p],
+                state[layout::REFERENCE + layout::RECORDS + p],
+                state[layout::REFERENCE + 2 * layout::RECORDS + p],
+                state[layout::REFERENCE + 3 * layout::RECORDS + p],
+            );
+        k += 1;
+    }
+    ok
+}
+
+// Whether the first `total` records are in order, and the cells behind them are empty.
+pub fn records(state: &[u8], total: usize) -> bool
+    requires { ⌜ (length (now state) ≡ 7040) × (total ≤ 1024) ⌝ }
+    ensures { λ r. ⌜ r ≡ recordsRule (now (state .entry)) total ⌝ }
+{
+    let a = sizes(state, total);
+    let b = behind(state, total);
+    a & b
+}
+
 // Whether the n bytes from a place on are 0.
 pub fn is_clear(state: &[u8], from: usize, n: usize) -> bool
     requires { ⌜ from + n ≤ length (now state) ⌝ }
@@ -108,22 +155,6 @@ pub fn is_clear(state: &[u8], from: usize, n: usize) -> bool
         k += 1;
     }
     ok
-}
-
-// Whether the first `total` records are in order, and all six lines are 0 behind them.
-pub fn records(state: &[u8], total: usize) -> bool
-    requires { ⌜ (length (now state) ≡ 7040) × (total ≤ 1024) ⌝ }
-    ensures { λ r. ⌜ r ≡ recordsRule (now (state .entry)) total ⌝ }
-{
-    let rest = layout::RECORDS - total;
-    let a = sizes(state, total);
-    let s0 = is_clear(state, layout::SIZE + total, rest);
-    let s1 = is_clear(state, layout::SIZE + layout::RECORDS + total, rest);
-    let r0 = is_clear(state, layout::REFERENCE + total, rest);
-    let r1 = is_clear(state, layout::REFERENCE + layout::RECORDS + total, rest);
-    let r2 = is_clear(state, layout::REFERENCE + 2 * layout::RECORDS + total, rest);
-    let r3 = is_clear(state, layout::REFERENCE + 3 * layout::RECORDS + total, rest);
-    a & (s0 & (s1 & (r0 & (r1 & (r2 & r3)))))
 }
 
 // Whether the n deficits whose high bytes stand from a place on are at most 1,023.

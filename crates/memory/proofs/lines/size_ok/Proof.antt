@@ -1,11 +1,22 @@
--- Tests of the bytes are tests of the number. Assumes nothing.
+-- In either arm the byte compared is the high byte of the length less one. Assumes nothing.
+use mathlib.Core.Logic.{⊎-elim}
 use native.Mathlib.Omega.{arith}
-use Rattle.memory.specs.ByteTests.{size-law}
+use borrow.Author.Needs.{needs}
+use Rattle.memory.specs.ByteTests.{size-borrow, size-keep}
 use Rattle.memory.proofs.lines.size_ok.Statement.{statement}
 use Rattle.memory.proofs.lines.size_ok.Tie as tie
 
+wrapping-sub-u8-requires : tie.Need-wrapping-sub-u8-requires
+wrapping-sub-u8-requires c κs = search needs
+
 returns : tie.Need-returns
-returns c = size-law (c .args .low) (c .args .high) (omega arith)
+returns c =
+    let low = c .before .args .low in
+    let high = c .before .args .high in
+    ⊎-elim
+    (λ h. rw (h .2) (size-borrow low high (h .1 .result) (h .0 .taken) (omega arith) (h .1 .ensures)))
+    (λ h. rw (h .1) (size-keep low high (h .0 .left) (omega arith)))
+    (c .if1 .came)
 
 pub size-ok-spec : {M : Type 1} → statement M
-size-ok-spec = tie.close (tie.spec returns)
+size-ok-spec = tie.close (tie.spec wrapping-sub-u8-requires returns)
