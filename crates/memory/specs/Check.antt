@@ -31,6 +31,9 @@ deficitAt b i = num (upward (576 + i) 64) 2 b
 unfoldable pub sizeAt : List ℕ → ℕ → ℕ
 sizeAt b p = num (upward (896 + p) 1024) 2 b
 
+unfoldable pub referenceAt : List ℕ → ℕ → ℕ
+referenceAt b p = num (upward (2944 + p) 1024) 4 b
+
 unfoldable pub maskAt : List ℕ → ℕ
 maskAt b = num (upward 837 1) 8 b
 
@@ -72,10 +75,6 @@ sizeRule n = leb 1 n && leb n longest
 
 unfoldable pub sizesRule : List ℕ → ℕ → Bool
 sizesRule b total = allBelow total (λ p. sizeRule (sizeAt b p))
-
--- the reference in cell p
-unfoldable pub referenceAt : List ℕ → ℕ → ℕ
-referenceAt b p = num (upward (2944 + p) 1024) 4 b
 
 -- a cell of the records that holds none: its length and its reference are 0
 abbrev pub emptyRule : ℕ → ℕ → Bool
