@@ -1,13 +1,13 @@
 -- The choice in numbers: a list of slots is told by its mask, so each step of the choice on a state is the same step on the numbers of its scan point.
 -- Assumes nothing.
-use Prim.Native.Nat.{ℕ, suc, _+_, _-_, _^_, _≤_, _<_}
+use Prim.Native.Nat.{ℕ, suc, _-_, _^_, _≤_, _<_}
 use mathlib.Core.Path.{_≡_, refl, sym, ap, _∙_, subst}
-use mathlib.Core.Bool.{Bool, true, false, cond}
+use mathlib.Core.Bool.{Bool, true, false}
 use mathlib.Core.List.{List, [], _∷_}
 use mathlib.Core.Option.{Option, none, some}
 use native.Mathlib.Numerals.{add-one}
 use native.Mathlib.Omega.{arith}
-use lib.Dec.{eqb, leb}
+use lib.Dec.{leb}
 use borrow.Author.Tests.{leb-true, leb-false}
 use Rattle.bits.specs.Bit.{withoutBit}
 use Rattle.bits.specs.Mask.{maskOf}
@@ -37,7 +37,9 @@ use Rattle.memory.specs.Masks.{first-in-mask, mask-rest, mask-empty, mask-none,
 use Rattle.memory.specs.Fitting.{Fits}
 use Rattle.memory.specs.SoundFits.{sound-fits}
 use Rattle.memory.specs.SoundMemory.{SoundMemory}
+use Rattle.uplink.specs.Step.{afterStep}
 use Rattle.uplink.specs.Choice.{chosenOf, inChosen, choiceTold, termIn, Visits}
+use Rattle.uplink.specs.declared.step.Step.the-variants as step
 use Rattle.uplink.specs.declared.choose.Chosen.{Chosen}
 use Rattle.uplink.specs.declared.choose.Choice.the-variants as choice
 
@@ -56,22 +58,23 @@ module _ {s : State} (S : Sound s) (filled : isEmpty (s .rows) ≡ false) {p : �
       let (low, high) = next-position (s .order) p (order-least S filled) l in
       rw (e, a) (term-le (s .order) (nextPosition (s .order) p) low high)
 
--- the numbers that the code works out, one after the other, are those of the state with the term taken
-pub term-steps : (s : State) (p : Scan) {k q t m n : ℕ} → k ≡ s .order → q ≡ nextPosition k (p .position) → t ≡ term q
-    → m ≡ maskOf (columnOf (weights (s .channels)) (s .rows) (k - t)) → n ≡ cond (eqb m 0) 0 (k - t)
-    → _≡_ {A = Scan} (record { position = q; column = n; mask = m; visit = p .visit }) (termIn s p)
+-- the numbers that the code works out, one after the other, are those of the term step
+pub term-steps : (s : State) (p : Scan) {x : Scan} {k q t m : ℕ} → k ≡ s .order → q ≡ nextPosition k (p .position) → t ≡ term q
+    → m ≡ maskOf (columnOf (weights (s .channels)) (s .rows) (k - t)) → x ≡ afterStep p (step.Term q (k - t) m) → x ≡ termIn s p
 unfolding columnAt
-term-steps s p a e f g h =
-    let q = nextPosition (s .order) (p .position) in
-    let c = s .order - term q in
-    rw (h, g, f, e, a, noted-mask (columnOf (weights (s .channels)) (s .rows) c) c)
+term-steps s p a e f g h = h ∙ rw (g, f, e, a)
+
+-- on the numbers of a state's scan point, the term step gives those of the state with the term taken
+term-numbers : (s : State) {p : Scan} → p ≡ inNumbers (s .scan) → termIn s p ≡ inNumbers (termTaken s .scan)
+term-numbers s q =
+    let c = columnAt (s .order) (nextPosition (s .order) (s .scan .position)) in
+    rw (q, noted-mask (columnOf (weights (s .channels)) (s .rows) c) c)
 
 -- ---- a visit is started
 
-chosen-same : {i j a b n m q q′ c c′ k k′ v v′ : ℕ} → i ≡ j → a ≡ b → n ≡ m → q ≡ q′ → c ≡ c′ → k ≡ k′ → v ≡ v′
-    → _≡_ {A = Chosen} (record { slot = i; started = a; terms = n; scan = record { position = q; column = c; mask = k; visit = v } })
-    (record { slot = j; started = b; terms = m; scan = record { position = q′; column = c′; mask = k′; visit = v′ } })
-chosen-same e f g h k l m = rw (e, f, g, h, k, l, m)
+chosen-same : {i j a b n m : ℕ} {p q : Scan} → i ≡ j → a ≡ b → n ≡ m → p ≡ q
+    → _≡_ {A = Chosen} (record { slot = i; started = a; terms = n; scan = p }) (record { slot = j; started = b; terms = m; scan = q })
+chosen-same e f g h = rw (e, f, g, h)
 
 -- p is the numbers of the scan point of a state that fits
 module _ {s : State} (F : Fits s) {p : Scan} (q : p ≡ inNumbers (s .scan)) where
@@ -82,15 +85,13 @@ module _ {s : State} (F : Fits s) {p : Scan} (q : p ≡ inNumbers (s .scan)) whe
   first-is : firstOf (inMask (p .mask) (s .rows)) ≡ firstOf (s .scan .toVisit)
   first-is = rw mask-of (first-in-mask (F .part) (F .once))
 
+  -- the visit step, on the numbers, gives those of the state with the visit started
   visit-numbers : {x : Chosen} (n i : ℕ) (rest : List ℕ) → s .scan .toVisit ≡ i ∷ rest → Visits n p i x
       → x ≡ inChosen (record { slot = i; started = 1; terms = n; state = visitStarted s i rest })
   visit-numbers n i rest e w =
-      let mask : withoutBit i (p .mask) ≡ maskOf rest = rw (mask-of, e) (mask-rest i rest (once-part (rw e at (F .part)) (F .once))) in
-      let left = w .mask-is ∙ ap (λ (j : ℕ). withoutBit j (p .mask)) (w .slot-is) ∙ mask in
-      let column = ap (λ (x : Scan). x .column) q in
-      chosen-same (w .slot-is) (w .started-is) (w .terms-are) (w .position-is ∙ ap (λ (x : Scan). x .position) q)
-      (w .column-is ∙ rw (left, column) (sym (noted-mask rest (s .scan .column)))) left
-      (w .visit-is ∙ ap (λ (j : ℕ). j + 1) (w .slot-is) ∙ add-one i)
+      let left : withoutBit i (maskOf (s .scan .toVisit)) ≡ maskOf rest = rw e (mask-rest i rest (once-part (rw e at (F .part)) (F .once))) in
+      let visited : afterStep p (step.Visit i) ≡ inNumbers (visitStarted s i rest .scan) = rw (q, left, noted-mask rest (s .scan .column), add-one i) in
+      chosen-same (w .slot-is) (w .started-is) (w .terms-are) (w .scan-is ∙ ap (λ (j : ℕ). afterStep p (step.Visit j)) (w .slot-is) ∙ visited)
 
   first-chosen : {x : Chosen} (n : ℕ) (other : Answer rules.Chosen) → (p .mask ≡ 0 → ⊥)
       → Visits n p (firstOf (inMask (p .mask) (s .rows))) x → choice.Slot x ≡ choiceTold (startFirst (s .scan .toVisit) n s other)
@@ -164,7 +165,7 @@ module _ {b : List ℕ} (m : SoundMemory b) (filled : isEmpty (stateOf b .rows) 
       fits₁ = sound-fits (term-kept (m .state) closed filled)
 
       q₁ : p₁ ≡ inNumbers (termTaken here .scan)
-      q₁ = e₁ ∙ ap (termIn here) q
+      q₁ = e₁ ∙ term-numbers here q
 
       taken : choiceTold (scanning 1 1 (termTaken here)) ≡ choiceTold (chosenOf here)
       unfolding scanning
@@ -186,7 +187,7 @@ module _ {b : List ℕ} (m : SoundMemory b) (filled : isEmpty (stateOf b .rows) 
         fits₂ = sound-fits (term-kept (term-kept (m .state) closed filled) closed filled)
 
         q₂ : p₂ ≡ inNumbers (termTaken (termTaken here) .scan)
-        q₂ = e₂ ∙ ap (termIn here) q₁
+        q₂ = e₂ ∙ term-numbers (termTaken here) q₁
 
         taken-again : choiceTold (scanning 0 2 (termTaken (termTaken here))) ≡ choiceTold (chosenOf here)
         unfolding scanning

@@ -6,6 +6,7 @@ pub mod Putting
 pub mod Closing
 pub mod Asking
 pub mod Shift
+pub mod ScanLent
 pub mod ChoiceInNumbers
 pub mod HeadInNumbers
 pub mod SettledState

@@ -1,21 +1,21 @@
 -- What is chosen, as the code holds it: the slot and the numbers of the scan point. Assumes nothing.
-use Prim.Native.Nat.{ℕ, _+_}
+use Prim.Native.Nat.{ℕ}
 use mathlib.Core.Path.{_≡_}
-use mathlib.Core.Bool.{false, cond}
+use mathlib.Core.Bool.{false}
 use mathlib.Core.List.{List}
-use lib.Dec.{eqb}
-use Rattle.bits.specs.Bit.{withoutBit}
 use Rattle.bits.specs.Mask.{maskOf}
 use Rattle.bits.specs.Tests.{isEmpty}
 use Rattle.spread.specs.Answer.{Answer, refused, given}
 use Rattle.spread.specs.Visits.{columnAt}
 use Rattle.rules.specs.State.{State, weights, columnOf}
 use Rattle.rules.specs.Next as rules
-use Rattle.rules.specs.Next.{nextPosition, noted, chooseBy}
+use Rattle.rules.specs.Next.{nextPosition, chooseBy}
 use Rattle.memory.specs.declared.point.Scan.{Scan}
 use Rattle.memory.specs.Point.{inNumbers}
 use Rattle.memory.specs.Reading.{stateOf}
 use Rattle.memory.specs.SoundMemory.{SoundMemory}
+use Rattle.uplink.specs.Step.{afterStep}
+use Rattle.uplink.specs.declared.step.Step.the-variants as step
 use Rattle.uplink.specs.declared.choose.Chosen.{Chosen}
 use Rattle.uplink.specs.declared.choose.Choice.{Choice}
 use Rattle.uplink.specs.declared.choose.Choice.the-variants as choice
@@ -36,18 +36,14 @@ abbrev pub termIn : State → Scan → Scan
 termIn s p =
     let q = nextPosition (s .order) (p .position) in
     let c = columnAt (s .order) q in
-    let found = columnOf (weights (s .channels)) (s .rows) c in
-    record { position = q; column = noted found c; mask = maskOf found; visit = p .visit }
+    afterStep p (step.Term q c (maskOf (columnOf (weights (s .channels)) (s .rows) c)))
 
 -- x starts the visit of slot i after n terms, from the numbers p
 pub record Visits (n : ℕ) (p : Scan) (i : ℕ) (x : Chosen) : Type 0 where
   pub slot-is : x .slot ≡ i
   pub started-is : x .started ≡ 1
   pub terms-are : x .terms ≡ n
-  pub position-is : x .scan .position ≡ p .position
-  pub mask-is : x .scan .mask ≡ withoutBit (x .slot) (p .mask)
-  pub column-is : x .scan .column ≡ cond (eqb (x .scan .mask) 0) 0 (p .column)
-  pub visit-is : x .scan .visit ≡ x .slot + 1
+  pub scan-is : x .scan ≡ afterStep p (step.Visit (x .slot))
 
 -- the memory is sound and has rows, and x is the choice on its state
 pub record Chose (b : List ℕ) (x : Chosen) : Type 0 where

@@ -1,16 +1,16 @@
 // Which slot sends next: the open visit's, else the first still to visit, else the first of the column of the next term that has a row.
 //
-// Nothing is written here: the scan point goes in by value and comes back with the slot.
-use bits::without_slot;
+// Nothing is written here: the scan point goes in by value, is altered by the stepping routine (step.rt), and comes back with the slot.
+use super::step::Step;
+use super::step::stepped;
 use memory::point::Scan;
 use memory::point::load_order;
 use memory::search::column_of;
 use memory::search::first_in;
 use spread::TermAnswer;
 ghost use mathlib.Core.Path.{_≡_};
-ghost use mathlib.Core.Bool.{false, cond};
+ghost use mathlib.Core.Bool.{false};
 ghost use Prim.Native.Nat.{_^_, _≤_, _<_};
-ghost use lib.Dec.{eqb};
 ghost use Rattle.bits.specs.Tests.{isEmpty};
 ghost use Rattle.rules.specs.Next.{nextPosition};
 ghost use Rattle.memory.specs.Reading.{stateOf};
@@ -67,14 +67,7 @@ fn first_visit(state: &[u8], terms: u32, scan: Scan) -> Chosen
     ensures { λ r. ⌜ Visits terms scan (firstOf (inMask (scan .mask) (stateOf (now (state .entry)) .rows))) r ⌝ }
 {
     let slot = first_in(state, scan.mask);
-    let mask = without_slot(scan.mask, slot as u32);
-    let column = noted(mask, scan.column);
-    let left = Scan {
-        position: scan.position,
-        column,
-        mask,
-        visit: slot as u8 + 1,
-    };
+    let left = stepped(scan, Step::Visit(slot));
     Chosen {
         slot,
         started: 1,
@@ -95,13 +88,14 @@ fn term_taken(state: &[u8], scan: Scan) -> Scan
     };
     let column = order - t;
     let mask = column_of(state, column);
-    let kept = noted(mask, column as u8);
-    Scan {
-        position,
-        column: kept,
-        mask,
-        visit: scan.visit,
-    }
+    stepped(
+        scan,
+        Step::Term {
+            position,
+            column: column as u8,
+            mask,
+        },
+    )
 }
 
 // The position after one: "P goes up by one, and 2^k becomes 1".
@@ -114,14 +108,4 @@ fn next_position(order: u32, position: u16) -> u16
         return 1;
     }
     next
-}
-
-// "When the list is empty the noted column is 0."
-fn noted(mask: u64, column: u8) -> u8
-    ensures { λ r. ⌜ r ≡ cond (eqb mask 0) 0 column ⌝ }
-{
-    if mask == 0 {
-        return 0;
-    }
-    column
 }

@@ -11,6 +11,7 @@ pub mod lookup; // lookup.rt: the channel that a slot and a ticket name
 pub mod open; // open.rt: start and open
 pub mod put; // put.rt: put
 pub mod close; // close.rt: close
+pub mod step; // step.rt: the scan point, lent and altered
 pub mod choose; // choose.rt: which slot sends next
 pub mod settle; // settle.rt: the record leaves, and the visit is settled
 pub mod next; // next.rt: next

@@ -55,11 +55,11 @@ column-of-requires c κs =
     let P = c .before .before .before .before .before .before .before .pre in
     (rows-of (P .0), omega (arith, order-most (P .0 .state), c .before .before .before .before .before .load-order .ensures))
 
-cast-noted : tie.Need-cast-noted
-cast-noted c = search needs
+cast-t8 : tie.Need-cast-t8
+cast-t8 c = search needs
 
-noted-requires : tie.Need-noted-requires
-noted-requires c κs = search needs
+stepped-requires : tie.Need-stepped-requires
+stepped-requires c κs = search needs
 
 returns-2 : tie.Need-returns-2
 returns-2 c =
@@ -68,7 +68,7 @@ returns-2 c =
     let known = term-next (P .0 .state) (P .1) (P .2) (c .before .before .before .before .before .before .before .load-order .ensures) (c .before .before .before .before .before .before .next-position .ensures) in
     let is-term = given-inj (sym (ap termTold (c .before .before .before .t .given .1)) ∙ c .before .before .before .before .before .term .ensures ∙ known) in
     term-steps (stateOf (now (a .state))) (a .scan) (c .before .before .before .before .before .before .before .load-order .ensures) (c .before .before .before .before .before .before .next-position .ensures) is-term
-    (c .before .column-of .ensures) (c .noted .ensures)
+    (c .before .column-of .ensures) (c .stepped .ensures)
 
 pub term-taken-spec : {M : Type 1} → statement M
 term-taken-spec =
@@ -84,6 +84,6 @@ term-taken-spec =
     returns
     sub-column
     column-of-requires
-    cast-noted
-    noted-requires
+    cast-t8
+    stepped-requires
     returns-2)

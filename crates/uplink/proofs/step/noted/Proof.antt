@@ -1,7 +1,7 @@
 -- The test is the definition's. Assumes nothing.
 use borrow.Author.Tests.{eq-eqb, ne-eqb}
-use Rattle.uplink.proofs.choose.noted.Statement.{statement}
-use Rattle.uplink.proofs.choose.noted.Tie as tie
+use Rattle.uplink.proofs.step.noted.Statement.{statement}
+use Rattle.uplink.proofs.step.noted.Tie as tie
 
 returns : tie.Need-returns
 returns c = rw (eq-eqb (c .before .args .mask) 0 (c .if1 .taken))
