@@ -52,41 +52,44 @@ getD-line f j i = getD-filled (f .lanes) (map (byte j) (f .numbers)) i ∙ getD-
 
 -- ---- the lines of a field
 
-pub length-lines : (f : Field) (w : ℕ) → length (f .numbers) ≤ f .lanes → length (lines f w) ≡ f .lanes * w
+-- w lines of n bytes each
+pub length-each : (l : ℕ → List ℕ) (n w : ℕ) → ((j : ℕ) → length (l j) ≡ n) → length (lines l w) ≡ n * w
 unfolding lines
-length-lines f zero h = sym (mul-zero (f .lanes))
-length-lines f (suc w) h =
-    omega (arith, length-append (lines f w) (line f w), length-lines f w h, length-line f w h, mul-suc (f .lanes) w)
+length-each l n zero h = sym (mul-zero n)
+length-each l n (suc w) h = omega (arith, length-append (lines l w) (l w), length-each l n w h, h w, mul-suc n w)
+
+pub length-lines : (f : Field) (w : ℕ) → length (f .numbers) ≤ f .lanes → length (lines (line f) w) ≡ f .lanes * w
+length-lines f w h = length-each (line f) (f .lanes) w (λ j. length-line f j h)
 
 -- a byte of line j stands among the first w lines
 lane-within : (n w i j : ℕ) → i < n → j < w → i + n * j < n * w
 lane-within n w i j h l = let m : n * suc j ≤ n * w = mul-le-mul-left n l in omega (arith, mul-suc n j)
 
 pub getD-lines : (f : Field) (w i j : ℕ) → length (f .numbers) ≤ f .lanes → i < f .lanes → j < w
-    → getD (lines f w) (i + f .lanes * j) 0 ≡ getD (f .numbers) i 0 / 256 ^ j % 256
+    → getD (lines (line f) w) (i + f .lanes * j) 0 ≡ getD (f .numbers) i 0 / 256 ^ j % 256
 unfolding lines
 getD-lines f zero i j few h l = absurd (not-suc-le-zero l)
 getD-lines f (suc w) i j few h l =
-    let len : length (lines f w) ≡ f .lanes * w = length-lines f w few in
+    let len : length (lines (line f) w) ≡ f .lanes * w = length-lines f w few in
     let le : j ≤ w = le-of-suc-le-suc l in
     ⊎-elim
     (λ (e : j ≡ w).
-    let p : i + f .lanes * w ≡ length (lines f w) + i = omega arith in
-    rw (e, p) (getD-append-add (lines f w) (line f w) i 0 ∙ getD-line f w i))
+    let p : i + f .lanes * w ≡ length (lines (line f) w) + i = omega arith in
+    rw (e, p) (getD-append-add (lines (line f) w) (line f w) i 0 ∙ getD-line f w i))
     (λ (m : j < w).
-    List·getD-append (lines f w) (line f w) 0 (i + f .lanes * j) (rw len (lane-within (f .lanes) w i j h m)) ∙ getD-lines f w i j few h m)
+    List·getD-append (lines (line f) w) (line f w) 0 (i + f .lanes * j) (rw len (lane-within (f .lanes) w i j h m)) ∙ getD-lines f w i j few h m)
     (eq-or-lt-of-le le)
 
 -- bytes in these places are the lines
 pub lines-only : (f : Field) (w : ℕ) (b : List ℕ) → length (f .numbers) ≤ f .lanes → length b ≡ f .lanes * w
-    → ((i j : ℕ) → i < f .lanes → j < w → getD b (i + f .lanes * j) 0 ≡ getD (f .numbers) i 0 / 256 ^ j % 256) → b ≡ lines f w
+    → ((i j : ℕ) → i < f .lanes → j < w → getD b (i + f .lanes * j) 0 ≡ getD (f .numbers) i 0 / 256 ^ j % 256) → b ≡ lines (line f) w
 unfolding lines
 lines-only f zero [] few len h = refl
 lines-only f zero (x ∷ b) few len h = absurd (omega (arith, mul-zero (f .lanes)))
 lines-only f (suc w) b few len h =
     let all : length b ≡ f .lanes * w + f .lanes = omega (arith, mul-suc (f .lanes) w) in
     let low : length (take (f .lanes * w) b) ≡ f .lanes * w = length-take-le (f .lanes * w) b (omega arith) in
-    let front : take (f .lanes * w) b ≡ lines f w
+    let front : take (f .lanes * w) b ≡ lines (line f) w
     = lines-only f w (take (f .lanes * w) b) few low
     (λ i j p q. getD-take (f .lanes * w) b (i + f .lanes * j) 0 (lane-within (f .lanes) w i j p q) ∙ h i j p (omega arith)) in
     let back : drop (f .lanes * w) b ≡ line f w
@@ -102,7 +105,7 @@ pub lay-length : (fs : List Field) → Fit fs → length (lay fs) ≡ span fs
 unfolding lay
 lay-length [] fit = refl
 lay-length (f ∷ fs) (a beside r) =
-    omega (arith, length-append (lines f (f .width)) (lay fs), length-lines f (f .width) (a .few), lay-length fs r)
+    omega (arith, length-append (lines (line f) (f .width)) (lay fs), length-lines f (f .width) (a .few), lay-length fs r)
 
 -- byte j of lane i of field k
 pub lay-byte : (fs : List Field) (k i j : ℕ) → Fit fs → i < nth fs k .lanes → j < nth fs k .width
@@ -110,14 +113,14 @@ pub lay-byte : (fs : List Field) (k i j : ℕ) → Fit fs → i < nth fs k .lane
 unfolding lay
 lay-byte [] k i j fit h l = absurd (not-suc-le-zero h)
 lay-byte (f ∷ fs) zero i j (a beside r) h l =
-    let len : length (lines f (f .width)) ≡ f .lanes * f .width = length-lines f (f .width) (a .few) in
+    let len : length (lines (line f) (f .width)) ≡ f .lanes * f .width = length-lines f (f .width) (a .few) in
     let e : 0 + i + f .lanes * j ≡ i + f .lanes * j = omega arith in
-    rw e (List·getD-append (lines f (f .width)) (lay fs) 0 (i + f .lanes * j) (rw len (lane-within (f .lanes) (f .width) i j h l))
+    rw e (List·getD-append (lines (line f) (f .width)) (lay fs) 0 (i + f .lanes * j) (rw len (lane-within (f .lanes) (f .width) i j h l))
     ∙ getD-lines f (f .width) i j (a .few) h l)
 lay-byte (f ∷ fs) (suc k) i j (a beside r) h l =
-    let len : length (lines f (f .width)) ≡ f .lanes * f .width = length-lines f (f .width) (a .few) in
-    let e : f .lanes * f .width + start fs k + i + nth fs k .lanes * j ≡ length (lines f (f .width)) + (start fs k + i + nth fs k .lanes * j) = omega arith in
-    rw e (getD-append-add (lines f (f .width)) (lay fs) (start fs k + i + nth fs k .lanes * j) 0 ∙ lay-byte fs k i j r h l)
+    let len : length (lines (line f) (f .width)) ≡ f .lanes * f .width = length-lines f (f .width) (a .few) in
+    let e : f .lanes * f .width + start fs k + i + nth fs k .lanes * j ≡ length (lines (line f) (f .width)) + (start fs k + i + nth fs k .lanes * j) = omega arith in
+    rw e (getD-append-add (lines (line f) (f .width)) (lay fs) (start fs k + i + nth fs k .lanes * j) 0 ∙ lay-byte fs k i j r h l)
 
 -- lane i of field k holds its number, and 0 behind the last one
 pub lay-read : (fs : List Field) (k i : ℕ) → Fit fs → i < nth fs k .lanes → num (places fs k i) (nth fs k .width) (lay fs) ≡ getD (nth fs k .numbers) i 0
@@ -133,15 +136,15 @@ lay-read-one fs k i fit one h =
 
 -- ---- bytes
 
-bytes-lines : (f : Field) (w : ℕ) → Bytes (lines f w)
+bytes-lines : (f : Field) (w : ℕ) → Bytes (lines (line f) w)
 unfolding lines
 bytes-lines f zero = λ i. omega arith
-bytes-lines f (suc w) = below-append 256 (lines f w) (line f w) (bytes-lines f w) (λ i. rw (getD-line f w i) (omega arith))
+bytes-lines f (suc w) = below-append 256 (lines (line f) w) (line f w) (bytes-lines f w) (λ i. rw (getD-line f w i) (omega arith))
 
 pub lay-bytes : (fs : List Field) → Bytes (lay fs)
 unfolding lay
 lay-bytes [] = λ i. omega arith
-lay-bytes (f ∷ fs) = below-append 256 (lines f (f .width)) (lay fs) (bytes-lines f (f .width)) (lay-bytes fs)
+lay-bytes (f ∷ fs) = below-append 256 (lines (line f) (f .width)) (lay fs) (bytes-lines f (f .width)) (lay-bytes fs)
 
 -- ---- a memory is told by what stands in it
 
@@ -155,7 +158,7 @@ lay-only-bytes [] [] fit len h = refl
 lay-only-bytes [] (x ∷ b) fit len h = absurd (omega arith)
 lay-only-bytes (f ∷ fs) b (a beside r) len h =
     let low : length (take (f .lanes * f .width) b) ≡ f .lanes * f .width = length-take-le (f .lanes * f .width) b (omega arith) in
-    let front : take (f .lanes * f .width) b ≡ lines f (f .width)
+    let front : take (f .lanes * f .width) b ≡ lines (line f) (f .width)
     = lines-only f (f .width) (take (f .lanes * f .width) b) (a .few) low
     (λ i j p q.
     let e : 0 + i + f .lanes * j ≡ i + f .lanes * j = omega arith in

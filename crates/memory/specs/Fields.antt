@@ -3,7 +3,7 @@
 use Prim.Native.Nat.{ℕ, zero, suc, _+_, _-_, _*_, _/_, _%_, _^_, _≤_, _<_}
 use mathlib.Core.Path.{_≡_}
 use mathlib.Core.List.{List, [], _∷_, _++_, map}
-use lib.ListN.{length, getD, set, replicate}
+use lib.ListN.{length, getD, replicate}
 use Rattle.octets.specs.Number.{upward, num}
 use Rattle.octets.specs.Slide.{slid}
 
@@ -37,15 +37,15 @@ byte j v = v / 256 ^ j % 256
 unfoldable pub line : Field → ℕ → List ℕ
 line f j = filled (f .lanes) (map (byte j) (f .numbers))
 
--- its first k lines
-unfoldable pub lines : Field → ℕ → List ℕ
-lines f zero = []
-lines f (suc k) = lines f k ++ line f k
+-- the first k of some lines, one after the other
+unfoldable pub lines : (ℕ → List ℕ) → ℕ → List ℕ
+lines l zero = []
+lines l (suc k) = lines l k ++ l k
 
 -- the memory of a table of fields, one after the other
 unfoldable pub lay : List Field → List ℕ
 lay [] = []
-lay (f ∷ fs) = lines f (f .width) ++ lay fs
+lay (f ∷ fs) = lines (line f) (f .width) ++ lay fs
 
 -- where field k starts, and how long the whole is
 abbrev pub start : List Field → ℕ → ℕ
@@ -106,16 +106,9 @@ unfoldable pub edited : (ℕ → List ℕ → ℕ → List ℕ) → ℕ → ℕ 
 edited edit q n zero b = b
 edited edit q n (suc w) b = edit w (edited edit q n w b) (q + n * w)
 
--- of the m cells in use, those from p on move up by one; those behind p move down by one
+-- of the cells from p to m, those before m move up by one; those behind p move down by one
 abbrev pub opening : ℕ → ℕ → ℕ → List ℕ → ℕ → List ℕ
 opening m p j b q = slid (q + p) (q + p + 1) (m - p) b
 
 abbrev pub closing : ℕ → ℕ → ℕ → List ℕ → ℕ → List ℕ
-closing m p j b q = slid (q + p + 1) (q + p) (m - p - 1) b
-
--- the cell that this leaves then takes its byte of v; the last cell in use then takes 0
-abbrev pub insertion : ℕ → ℕ → ℕ → ℕ → List ℕ → ℕ → List ℕ
-insertion m p v j b q = set (opening m p j b q) (q + p) (v / 256 ^ j % 256)
-
-abbrev pub removal : ℕ → ℕ → ℕ → List ℕ → ℕ → List ℕ
-removal m p j b q = set (closing m p j b q) (q + (m - 1)) 0
+closing m p j b q = slid (q + p + 1) (q + p) (m - p) b

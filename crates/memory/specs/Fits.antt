@@ -1,11 +1,10 @@
 -- Which fields fit, and what a table keeps when one of its fields is changed. Assumes nothing.
-use Prim.Native.Nat.{ℕ, zero, suc, _+_, _*_, _^_, _≤_, _<_}
-use mathlib.Core.Path.{_≡_, refl, ap}
+use Prim.Native.Nat.{ℕ, zero, suc, _^_, _≤_, _<_}
 use mathlib.Core.List.{List, [], _∷_, _++_}
 use native.Mathlib.Omega.{arith}
 use native.Mathlib.Nat.{one-le-pow}
 use lib.ListN.{length, set, length-append, length-set}
-use Rattle.memory.specs.Fields.{Field, field, nothing, nth, holding, start, span, Below, Fitting, Fit, all-fit, _beside_, insertAt, removeAt, tab}
+use Rattle.memory.specs.Fields.{Field, field, nth, holding, Below, Fitting, Fit, all-fit, _beside_, insertAt, removeAt, tab}
 use Rattle.memory.specs.Tables.{length-insertAt, insertAt-last, length-removeAt, length-tab, below-set, below-insertAt, below-removeAt, below-tab}
 
 -- a field that fits: in general, with a number in each lane, and of one number
@@ -55,16 +54,3 @@ module _ (f : Field) (fits : Fitting f) where
         few = omega (arith, length-removeAt i (f .numbers) h, fits .few);
         small = below-removeAt (256 ^ f .width) i (f .numbers) (fits .small);
       }
-
-module _ (f : Field) where
-  pub start-set : (fs : List Field) (k j : ℕ) → f .lanes ≡ nth fs k .lanes → f .width ≡ nth fs k .width → start (set fs k f) j ≡ start fs j
-  start-set [] k j n w = refl
-  start-set (g ∷ fs) zero zero n w = refl
-  start-set (g ∷ fs) zero (suc j) n w = rw (n, w)
-  start-set (g ∷ fs) (suc k) zero n w = refl
-  start-set (g ∷ fs) (suc k) (suc j) n w = ap (λ (m : ℕ). g .lanes * g .width + m) (start-set fs k j n w)
-
-  pub span-set : (fs : List Field) (k : ℕ) → f .lanes ≡ nth fs k .lanes → f .width ≡ nth fs k .width → span (set fs k f) ≡ span fs
-  span-set [] k n w = refl
-  span-set (g ∷ fs) zero n w = rw (n, w)
-  span-set (g ∷ fs) (suc k) n w = ap (λ (m : ℕ). g .lanes * g .width + m) (span-set fs k n w)

@@ -1,15 +1,15 @@
 -- What an edit does to one line: it keeps to the line, and a line that is filled up with zeros stays so. Assumes nothing.
-use Prim.Native.Nat.{ℕ, suc, _+_, _-_, _/_, _%_, _^_, _≤_, _<_}
+use Prim.Native.Nat.{ℕ, suc, _+_, _-_, _≤_, _<_}
 use mathlib.Core.Path.{_≡_, sym, ap, _∙_}
 use mathlib.Core.List.{List, [], _∷_, _++_, append-assoc}
 use native.Mathlib.Omega.{arith}
 use native.Mathlib.Decide.{decLt}
 use native.Mathlib.Nat.{zero-add}
 use lib.ListN.{length, getD, set, take, drop, replicate, length-append, length-set, length-drop, List·getD-eq-default}
-use lib.Seq.{set-append-left, set-append-seam, append-snoc, take-append-add, drop-append-add, take-append-le, drop-append-le, getD-set-same, getD-set-other, set-getD, set-set, ext-getD}
+use lib.Seq.{set-append-left, set-append-seam, append-snoc, take-append-add, drop-append-add, take-append-le, drop-append-le, getD-set-same, getD-set-other, ext-getD}
 use Rattle.octets.specs.Slide.{slid}
 use Rattle.octets.specs.SlideLaws.{length-slid, slid-before, slid-at, slid-after}
-use Rattle.memory.specs.Fields.{filled, insertAt, removeAt, opening, closing, insertion, removal}
+use Rattle.memory.specs.Fields.{filled, insertAt, removeAt, opening, closing}
 use Rattle.memory.specs.Tables.{length-insertAt, getD-insertAt-before, getD-insertAt-at, getD-insertAt-after, length-removeAt, getD-removeAt-before, getD-removeAt-after}
 use Rattle.memory.specs.FieldLaws.{getD-filled, length-filled}
 
@@ -42,11 +42,6 @@ slid-local n i j m from into xs ys zs len =
     = ap (λ (k : ℕ). drop k (xs ++ (ys ++ zs))) behind ∙ drop-append-add xs (ys ++ zs) (j + m) ∙ drop-append-le (j + m) ys zs (omega arith) in
     rw (p, q, r, zero-add i, zero-add j) (simp append-assoc)
 
--- one after the other
-pub then-local : (n : ℕ) (d e : List ℕ → ℕ → List ℕ) → Local n d → ((ys : List ℕ) → length ys ≡ n → length (d ys 0) ≡ n) → Local n e
-    → Local n (λ b q. e (d b q) q)
-then-local n d e p keeps q xs ys zs len = ap (λ (l : List ℕ). e l (length xs)) (p xs ys zs len) ∙ q xs (d ys 0) zs (keeps ys len)
-
 module _ (n m p j : ℕ) where
   pub opening-local : p ≤ m → m < n → Local n (opening m p j)
   opening-local h free xs ys zs len =
@@ -54,23 +49,11 @@ module _ (n m p j : ℕ) where
       let c : 0 + p + 1 ≡ 0 + (p + 1) = omega arith in
       rw (a, c) (slid-local n p (p + 1) (m - p) (omega arith) (omega arith) xs ys zs len)
 
-  pub closing-local : p < m → m ≤ n → Local n (closing m p j)
-  closing-local h few xs ys zs len =
+  pub closing-local : p ≤ m → m < n → Local n (closing m p j)
+  closing-local h free xs ys zs len =
       let a : length xs + p + 1 ≡ length xs + (p + 1) = omega arith in
       let c : 0 + p + 1 ≡ 0 + (p + 1) = omega arith in
-      rw (a, c) (slid-local n (p + 1) p (m - p - 1) (omega arith) (omega arith) xs ys zs len)
-
-  pub insertion-local : (v : ℕ) → p ≤ m → m < n → Local n (insertion m p v j)
-  insertion-local v h free =
-      then-local n (opening m p j) (λ b q. set b (q + p) (v / 256 ^ j % 256)) (opening-local h free)
-      (λ ys len. length-slid (0 + p) (0 + p + 1) (m - p) ys (omega arith) (omega arith) ∙ len)
-      (set-local n p (v / 256 ^ j % 256) (omega arith))
-
-  pub removal-local : p < m → m ≤ n → Local n (removal m p j)
-  removal-local h few =
-      then-local n (closing m p j) (λ b q. set b (q + (m - 1)) 0) (closing-local h few)
-      (λ ys len. length-slid (0 + p + 1) (0 + p) (m - p - 1) ys (omega arith) (omega arith) ∙ len)
-      (set-local n (m - 1) 0 (omega arith))
+      rw (a, c) (slid-local n (p + 1) p (m - p) (omega arith) (omega arith) xs ys zs len)
 
 -- ---- what they do to a line
 
@@ -86,39 +69,35 @@ filled-append n xs v h =
     rw (free, longer)
     (set-append-seam xs 0 (replicate (n - (length xs + 1)) 0) v ∙ sym (append-snoc xs v (replicate (n - (length xs + 1)) 0)))
 
-pub filled-drop : (n : ℕ) (xs : List ℕ) (v : ℕ) → length xs < n → set (filled n (xs ++ v ∷ [])) (length xs) 0 ≡ filled n xs
-unfolding filled
-filled-drop n xs v h =
-    let free : n - length xs ≡ suc (n - (length xs + 1)) = omega arith in
-    let longer : length (xs ++ v ∷ []) ≡ length xs + 1 = length-append xs (v ∷ []) in
-    rw (free, longer, append-snoc xs v (replicate (n - (length xs + 1)) 0)) (set-append-seam xs v (replicate (n - (length xs + 1)) 0) 0)
+-- Behind the elements of xs the line is 0, so it makes no odds how many of its cells move along: m is any cell that is far enough.
 
 -- the cells from p on have moved up
-module _ (n : ℕ) (xs : List ℕ) (p : ℕ) (within : p ≤ length xs) (free : length xs < n) where
+module _ (n : ℕ) (xs : List ℕ) (m p : ℕ) (within : p ≤ length xs) (among : length xs ≤ m) (free : m < n) where
   abbrev opened : List ℕ
-  opened = slid p (p + 1) (length xs - p) (filled n xs)
+  opened = slid p (p + 1) (m - p) (filled n xs)
 
-  room : p + 1 + (length xs - p) ≤ length (filled n xs)
+  room : p + 1 + (m - p) ≤ length (filled n xs)
   room = omega (arith, length-filled n xs (omega arith))
 
-  length-opened : length opened ≡ n
-  length-opened = length-slid p (p + 1) (length xs - p) (filled n xs) (omega (arith, room)) room ∙ length-filled n xs (omega arith)
+  pub length-opened : length opened ≡ n
+  length-opened = length-slid p (p + 1) (m - p) (filled n xs) (omega (arith, room)) room ∙ length-filled n xs (omega arith)
 
-  opened-upto : (x : ℕ) → x ≤ p → getD opened x 0 ≡ getD xs x 0
-  opened-upto x h = slid-before p (p + 1) (length xs - p) (filled n xs) (omega (arith, room)) room x (omega arith) ∙ getD-filled n xs x
+  opened-before : (x : ℕ) → x < p → getD opened x 0 ≡ getD xs x 0
+  opened-before x h = slid-before p (p + 1) (m - p) (filled n xs) (omega (arith, room)) room x (omega arith) ∙ getD-filled n xs x
 
   opened-behind : (x : ℕ) → p ≤ x → getD opened (suc x) 0 ≡ getD xs x 0
   opened-behind x h =
       let here : p + (x - p) ≡ x = omega arith in
       let next : p + 1 + (x - p) ≡ suc x = omega arith in
-      elim (decLt x (length xs)) [
+      elim (decLt x m) [
         | yes a ↦
-            (rw (here, next) at (slid-at p (p + 1) (length xs - p) (filled n xs) (omega (arith, room)) room (x - p) (omega arith))) ∙ getD-filled n xs x
+            (rw (here, next) at (slid-at p (p + 1) (m - p) (filled n xs) (omega (arith, room)) room (x - p) (omega arith))) ∙ getD-filled n xs x
         | no a ↦
-            slid-after p (p + 1) (length xs - p) (filled n xs) (omega (arith, room)) room (suc x) (omega arith)
+            slid-after p (p + 1) (m - p) (filled n xs) (omega (arith, room)) room (suc x) (omega arith)
             ∙ getD-filled n xs (suc x) ∙ List·getD-eq-default xs 0 (omega arith) ∙ sym (List·getD-eq-default xs 0 (omega arith))
       ]
 
+  -- and cell p is written
   pub filled-insert : (v : ℕ) → set opened p v ≡ filled n (insertAt p v xs)
   filled-insert v =
       ext-getD 0 (set opened p v) (filled n (insertAt p v xs))
@@ -127,7 +106,7 @@ module _ (n : ℕ) (xs : List ℕ) (p : ℕ) (within : p ≤ length xs) (free : 
     where
       at : (x : ℕ) → getD (set opened p v) x 0 ≡ getD (insertAt p v xs) x 0
       at x = elim (decLt x p) [
-        | yes b ↦ getD-set-other opened p x v 0 (λ e. omega arith) ∙ opened-upto x (omega arith) ∙ sym (getD-insertAt-before p v xs x 0 within b)
+        | yes b ↦ getD-set-other opened p x v 0 (λ e. omega arith) ∙ opened-before x b ∙ sym (getD-insertAt-before p v xs x 0 within b)
         | no b ↦ elim (decLt p x) [
           | yes a ↦
               let e : x ≡ suc (x - 1) = omega arith in
@@ -139,68 +118,53 @@ module _ (n : ℕ) (xs : List ℕ) (p : ℕ) (within : p ≤ length xs) (free : 
         ]
       ]
 
-  -- the cell that is left keeps its byte
-  pub filled-open : opened ≡ filled n (insertAt p (getD xs p 0) xs)
-  filled-open = sym (set-getD opened p 0) ∙ filled-insert (getD opened p 0) ∙ ap (λ (v : ℕ). filled n (insertAt p v xs)) (opened-upto p (omega arith))
-
 -- the cells behind p have moved down
-module _ (n : ℕ) (xs : List ℕ) (p : ℕ) (within : p < length xs) (few : length xs ≤ n) where
+module _ (n : ℕ) (xs : List ℕ) (m p : ℕ) (within : p < length xs) (among : length xs ≤ m + 1) (free : m < n) where
   abbrev closed : List ℕ
-  closed = slid (p + 1) p (length xs - p - 1) (filled n xs)
+  closed = slid (p + 1) p (m - p) (filled n xs)
 
-  run : p + 1 + (length xs - p - 1) ≤ length (filled n xs)
-  run = omega (arith, length-filled n xs few)
+  run : p + 1 + (m - p) ≤ length (filled n xs)
+  run = omega (arith, length-filled n xs (omega arith))
 
-  length-closed : length closed ≡ n
-  length-closed = length-slid (p + 1) p (length xs - p - 1) (filled n xs) run (omega (arith, run)) ∙ length-filled n xs few
+  pub length-closed : length closed ≡ n
+  length-closed = length-slid (p + 1) p (m - p) (filled n xs) run (omega (arith, run)) ∙ length-filled n xs (omega arith)
 
   closed-before : (x : ℕ) → x < p → getD closed x 0 ≡ getD xs x 0
-  closed-before x h = slid-before (p + 1) p (length xs - p - 1) (filled n xs) run (omega (arith, run)) x h ∙ getD-filled n xs x
+  closed-before x h = slid-before (p + 1) p (m - p) (filled n xs) run (omega (arith, run)) x h ∙ getD-filled n xs x
 
-  closed-after : (x : ℕ) → length xs ≤ suc x → getD closed x 0 ≡ getD xs x 0
-  closed-after x h = slid-after (p + 1) p (length xs - p - 1) (filled n xs) run (omega (arith, run)) x (omega arith) ∙ getD-filled n xs x
-
-  closed-behind : (x : ℕ) → p ≤ x → suc x < length xs → getD closed x 0 ≡ getD xs (suc x) 0
+  closed-behind : (x : ℕ) → p ≤ x → x < m → getD closed x 0 ≡ getD xs (suc x) 0
   closed-behind x h l =
       let here : p + (x - p) ≡ x = omega arith in
       let next : p + 1 + (x - p) ≡ suc x = omega arith in
-      (rw (here, next) at (slid-at (p + 1) p (length xs - p - 1) (filled n xs) run (omega (arith, run)) (x - p) (omega arith))) ∙ getD-filled n xs (suc x)
+      (rw (here, next) at (slid-at (p + 1) p (m - p) (filled n xs) run (omega (arith, run)) (x - p) (omega arith))) ∙ getD-filled n xs (suc x)
 
-  pub filled-remove : set closed (length xs - 1) 0 ≡ filled n (removeAt p xs)
+  closed-after : (x : ℕ) → m < x → getD closed x 0 ≡ 0
+  closed-after x h =
+      slid-after (p + 1) p (m - p) (filled n xs) run (omega (arith, run)) x (omega arith) ∙ getD-filled n xs x ∙ List·getD-eq-default xs 0 (omega arith)
+
+  -- and cell m is cleared
+  pub filled-remove : set closed m 0 ≡ filled n (removeAt p xs)
   filled-remove =
-      ext-getD 0 (set closed (length xs - 1) 0) (filled n (removeAt p xs))
-      (length-set closed (length xs - 1) 0 ∙ length-closed ∙ sym (length-filled n (removeAt p xs) (omega (arith, length-removeAt p xs within))))
+      ext-getD 0 (set closed m 0) (filled n (removeAt p xs))
+      (length-set closed m 0 ∙ length-closed ∙ sym (length-filled n (removeAt p xs) (omega (arith, length-removeAt p xs within))))
       (λ x l. at x ∙ sym (getD-filled n (removeAt p xs) x))
     where
-      other : (x : ℕ) → (x ≡ length xs - 1 → ⊥) → getD (set closed (length xs - 1) 0) x 0 ≡ getD closed x 0
-      other x d = getD-set-other closed (length xs - 1) x 0 0 d
+      other : (x : ℕ) → (x ≡ m → ⊥) → getD (set closed m 0) x 0 ≡ getD closed x 0
+      other x d = getD-set-other closed m x 0 0 d
 
-      behind : (x : ℕ) → p ≤ x → getD (set closed (length xs - 1) 0) x 0 ≡ getD xs (suc x) 0
-      behind x h = elim (decLt (suc x) (length xs)) [
+      behind : (x : ℕ) → p ≤ x → getD (set closed m 0) x 0 ≡ getD xs (suc x) 0
+      behind x h = elim (decLt x m) [
         | yes a ↦ other x (λ e. omega arith) ∙ closed-behind x h a
-        | no a ↦ elim (decLt (length xs - 1) x) [
-          | yes c ↦
-              other x (λ e. omega arith) ∙ closed-after x (omega arith) ∙ List·getD-eq-default xs 0 (omega arith)
-              ∙ sym (List·getD-eq-default xs 0 (omega arith))
+        | no a ↦ elim (decLt m x) [
+          | yes c ↦ other x (λ e. omega arith) ∙ closed-after x c ∙ sym (List·getD-eq-default xs 0 (omega arith))
           | no c ↦
-              let e : x ≡ length xs - 1 = omega arith in
-              rw e (getD-set-same closed (length xs - 1) 0 0 (omega (arith, length-closed)) ∙ sym (List·getD-eq-default xs 0 (omega arith)))
+              let e : x ≡ m = omega arith in
+              rw e (getD-set-same closed m 0 0 (omega (arith, length-closed)) ∙ sym (List·getD-eq-default xs 0 (omega arith)))
         ]
       ]
 
-      at : (x : ℕ) → getD (set closed (length xs - 1) 0) x 0 ≡ getD (removeAt p xs) x 0
+      at : (x : ℕ) → getD (set closed m 0) x 0 ≡ getD (removeAt p xs) x 0
       at x = elim (decLt x p) [
         | yes b ↦ other x (λ e. omega arith) ∙ closed-before x b ∙ sym (getD-removeAt-before p xs x 0 b)
         | no b ↦ behind x (omega arith) ∙ sym (getD-removeAt-after p xs x 0 (omega arith))
       ]
-
-  -- the last cell in use keeps its byte
-  pub filled-close : closed ≡ filled n (removeAt p xs ++ getD xs (length xs - 1) 0 ∷ [])
-  filled-close =
-      let last : length (removeAt p xs) ≡ length xs - 1 = omega (arith, length-removeAt p xs within) in
-      let kept : getD closed (length xs - 1) 0 ≡ getD xs (length xs - 1) 0 = closed-after (length xs - 1) (omega arith) in
-      sym (set-getD closed (length xs - 1) 0)
-      ∙ sym (set-set closed (length xs - 1) 0 (getD closed (length xs - 1) 0))
-      ∙ ap (λ (l : List ℕ). set l (length xs - 1) (getD closed (length xs - 1) 0)) filled-remove
-      ∙ ap (λ (v : ℕ). set (filled n (removeAt p xs)) (length xs - 1) v) kept
-      ∙ (rw last at (filled-append n (removeAt p xs) (getD xs (length xs - 1) 0) (omega arith)))

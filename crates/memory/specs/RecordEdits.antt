@@ -39,16 +39,16 @@ edited-none edit q n b = refl
 
 -- ---- one field of the records, of any table
 
-module _ (fs : List Field) (k w : ℕ) (g : Record → ℕ) (run : List Record) (p : ℕ) (fit : Fit fs) (here : k < length fs)
+module _ (fs : List Field) (k w : ℕ) (g : Record → ℕ) (run : List Record) (m p : ℕ) (fit : Fit fs) (here : k < length fs)
     (held : nth fs k ≡ field 1024 w (map g run)) where
   numbers : length (nth fs k .numbers) ≡ length run
   numbers = rw held (length-map run g)
 
-  pub record-put : (r : Record) → p ≤ length run → length run < 1024
-      → put (upward (start fs k + p) 1024) w (edited (opening (length run) p) (start fs k) 1024 w (lay fs)) (g r)
+  pub record-put : (r : Record) → p ≤ length run → length run ≤ m → m < 1024
+      → put (upward (start fs k + p) 1024) w (edited (opening m p) (start fs k) 1024 w (lay fs)) (g r)
       ≡ lay (set fs k (field 1024 w (map g (insertAt p r run))))
-  record-put r low free =
-      rw (held, ← map-insertAt g p r run) at (lay-open-put fs k (length run) p fit here numbers (g r) low (rw held free))
+  record-put r low far free =
+      rw (held, ← map-insertAt g p r run) at (lay-open-put fs k m p fit here (rw held free) (g r) (rw numbers low) (rw numbers far))
 
   pub record-put-fits : (r : Record) → length run < 1024 → g r < 256 ^ w → Fit (set fs k (field 1024 w (map g (insertAt p r run))))
   record-put-fits r free low =
@@ -56,11 +56,11 @@ module _ (fs : List Field) (k w : ℕ) (g : Record → ℕ) (run : List Record) 
       (rw (held, ← map-insertAt g p r run) at
       (fitting-insert (nth fs k) (fit-at fs k fit) p (g r) (rw (numbers, held) free) (rw held low)))
 
-  pub record-drop : p < length run
-      → put (upward (start fs k + (length run - 1)) 1024) w (edited (closing (length run) p) (start fs k) 1024 w (lay fs)) 0
+  pub record-drop : p < length run → length run ≤ m + 1 → m < 1024
+      → put (upward (start fs k + m) 1024) w (edited (closing m p) (start fs k) 1024 w (lay fs)) 0
       ≡ lay (set fs k (field 1024 w (map g (removeAt p run))))
-  record-drop low =
-      rw (held, ← map-removeAt g p run) at (lay-close-put fs k (length run) p fit here numbers low)
+  record-drop low far free =
+      rw (held, ← map-removeAt g p run) at (lay-close-put fs k m p fit here (rw held free) (rw numbers low) (rw numbers far))
 
   pub record-drop-fits : p < length run → Fit (set fs k (field 1024 w (map g (removeAt p run))))
   record-drop-fits low =
@@ -107,7 +107,7 @@ queue-table s i rs run e =
     (table-same s (kept (λ x. kindNumber (x .kind)) refl) (sym (map-set (λ x. length (x .waiting)) i c (s .channels))) (kept (λ x. x .ticket) refl)
     (kept (λ x. x .weight) refl) (kept (λ x. x .deficit) refl) (kept (λ x. x .serial) refl) e)
 
--- ---- a record put in at place p of a run of m, and the record there taken out
+-- ---- a record put in at place p of the run, and the record there taken out; the cells slide between p and m, and no record stands behind m before or after
 
 unfoldable pub recordPut : List ℕ → ℕ → ℕ → ℕ → ℕ → List ℕ
 recordPut b m p n r =
@@ -115,43 +115,40 @@ recordPut b m p n r =
 
 unfoldable pub recordDropped : List ℕ → ℕ → ℕ → List ℕ
 recordDropped b m p =
-    put (upward (2944 + (m - 1)) 1024) 4
-    (edited (closing m p) 2944 1024 4 (put (upward (896 + (m - 1)) 1024) 2 (edited (closing m p) 896 1024 2 b) 0))
-    0
+    put (upward (2944 + m) 1024) 4 (edited (closing m p) 2944 1024 4 (put (upward (896 + m) 1024) 2 (edited (closing m p) 896 1024 2 b) 0)) 0
 
 -- in any table of that form; then v records wait in slot i
-module _ (s : State) (kinds waiting tickets weights deficits serials : List ℕ) (run : List Record) (i p : ℕ)
-    (fit0 : Fit (tableOf s kinds waiting tickets weights deficits serials run)) (within : i < length waiting) where
-  table-put : (r : Record) (v : ℕ) → RecordFits r → v < 256 → p ≤ length run → length run < 1024
-      → set (recordPut (lay (tableOf s kinds waiting tickets weights deficits serials run)) (length run) p (r .size) (r .reference)) (128 + i) v
+module _ (s : State) (kinds waiting tickets weights deficits serials : List ℕ) (run : List Record) (i m p : ℕ)
+    (fit0 : Fit (tableOf s kinds waiting tickets weights deficits serials run)) (within : i < length waiting) (free : m < 1024) where
+  table-put : (r : Record) (v : ℕ) → RecordFits r → v < 256 → p ≤ length run → length run ≤ m
+      → set (recordPut (lay (tableOf s kinds waiting tickets weights deficits serials run)) m p (r .size) (r .reference)) (128 + i) v
       ≡ lay (tableOf s kinds (set waiting i v) tickets weights deficits serials (insertAt p r run))
   unfolding recordPut
-  table-put r v fits few low free =
-      let m = length run in
+  table-put r v fits few low far =
+      let short : length run < 1024 = omega arith in
       let fs0 = tableOf s kinds waiting tickets weights deficits serials run in
       let fs1 = set fs0 14 (field 1024 2 (map (λ x. x .size) (insertAt p r run))) in
       let fs2 = tableOf s kinds waiting tickets weights deficits serials (insertAt p r run) in
-      let fit1 : Fit fs1 = record-put-fits fs0 14 2 (λ x. x .size) run p fit0 (omega arith) refl r free (fits .size-fits) in
-      let fit2 : Fit fs2 = record-put-fits fs1 15 4 (λ x. x .reference) run p fit1 (omega arith) refl r free (fits .reference-fits) in
+      let fit1 : Fit fs1 = record-put-fits fs0 14 2 (λ x. x .size) run m p fit0 (omega arith) refl r short (fits .size-fits) in
+      let fit2 : Fit fs2 = record-put-fits fs1 15 4 (λ x. x .reference) run m p fit1 (omega arith) refl r short (fits .reference-fits) in
       let reference-into : List ℕ → List ℕ = λ b. put (upward (2944 + p) 1024) 4 (edited (opening m p) 2944 1024 4 b) (r .reference) in
-      ap (λ (b : List ℕ). set (reference-into b) (128 + i) v) (record-put fs0 14 2 (λ x. x .size) run p fit0 (omega arith) refl r low free)
-      ∙ ap (λ (b : List ℕ). set b (128 + i) v) (record-put fs1 15 4 (λ x. x .reference) run p fit1 (omega arith) refl r low free)
+      ap (λ (b : List ℕ). set (reference-into b) (128 + i) v) (record-put fs0 14 2 (λ x. x .size) run m p fit0 (omega arith) refl r low far free)
+      ∙ ap (λ (b : List ℕ). set b (128 + i) v) (record-put fs1 15 4 (λ x. x .reference) run m p fit1 (omega arith) refl r low far free)
       ∙ lay-write-one fs2 2 i v fit2 (omega arith) refl few within
 
-  table-drop : (v : ℕ) → v < 256 → p < length run
-      → set (recordDropped (lay (tableOf s kinds waiting tickets weights deficits serials run)) (length run) p) (128 + i) v
+  table-drop : (v : ℕ) → v < 256 → p < length run → length run ≤ m + 1
+      → set (recordDropped (lay (tableOf s kinds waiting tickets weights deficits serials run)) m p) (128 + i) v
       ≡ lay (tableOf s kinds (set waiting i v) tickets weights deficits serials (removeAt p run))
   unfolding recordDropped
-  table-drop v few low =
-      let m = length run in
+  table-drop v few low far =
       let fs0 = tableOf s kinds waiting tickets weights deficits serials run in
       let fs1 = set fs0 14 (field 1024 2 (map (λ x. x .size) (removeAt p run))) in
       let fs2 = tableOf s kinds waiting tickets weights deficits serials (removeAt p run) in
-      let fit1 : Fit fs1 = record-drop-fits fs0 14 2 (λ x. x .size) run p fit0 (omega arith) refl low in
-      let fit2 : Fit fs2 = record-drop-fits fs1 15 4 (λ x. x .reference) run p fit1 (omega arith) refl low in
-      let reference-into : List ℕ → List ℕ = λ b. put (upward (2944 + (m - 1)) 1024) 4 (edited (closing m p) 2944 1024 4 b) 0 in
-      ap (λ (b : List ℕ). set (reference-into b) (128 + i) v) (record-drop fs0 14 2 (λ x. x .size) run p fit0 (omega arith) refl low)
-      ∙ ap (λ (b : List ℕ). set b (128 + i) v) (record-drop fs1 15 4 (λ x. x .reference) run p fit1 (omega arith) refl low)
+      let fit1 : Fit fs1 = record-drop-fits fs0 14 2 (λ x. x .size) run m p fit0 (omega arith) refl low in
+      let fit2 : Fit fs2 = record-drop-fits fs1 15 4 (λ x. x .reference) run m p fit1 (omega arith) refl low in
+      let reference-into : List ℕ → List ℕ = λ b. put (upward (2944 + m) 1024) 4 (edited (closing m p) 2944 1024 4 b) 0 in
+      ap (λ (b : List ℕ). set (reference-into b) (128 + i) v) (record-drop fs0 14 2 (λ x. x .size) run m p fit0 (omega arith) refl low far free)
+      ∙ ap (λ (b : List ℕ). set b (128 + i) v) (record-drop fs1 15 4 (λ x. x .reference) run m p fit1 (omega arith) refl low far free)
       ∙ lay-write-one fs2 2 i v fit2 (omega arith) refl few within
 
 module _ {s : State} (F : Fits s) (i : ℕ) (h : i < 64) where
@@ -170,27 +167,27 @@ module _ {s : State} (F : Fits s) (i : ℕ) (h : i < 64) where
       omega (arith, run-few (fits-added i noRecord F h none free), ap length (run-insert (s .channels) i noRecord slot-within))
 
   -- the record comes last in slot i's queue
-  pub record-added : (r : Record) → RecordFits r → length (at (s .channels) i .waiting) < room
-      → set (recordPut (bytesOf s) (length (runOf (s .channels))) (before (s .channels) (suc i)) (r .size) (r .reference)) (128 + i)
+  pub record-added : (m : ℕ) (r : Record) → m < 1024 → length (runOf (s .channels)) ≤ m → RecordFits r → length (at (s .channels) i .waiting) < room
+      → set (recordPut (bytesOf s) m (before (s .channels) (suc i)) (r .size) (r .reference)) (128 + i)
       (length (at (s .channels) i .waiting) + 1)
       ≡ bytesOf (recordAdded s i r)
   unfolding bytesOf
-  record-added r fits free =
+  record-added m r last far fits free =
       let cs = s .channels in
       let rs = at (s .channels) i .waiting ++ r ∷ [] in
       let long : length rs ≡ length (at (s .channels) i .waiting) + 1 = length-append (at (s .channels) i .waiting) (r ∷ []) in
       rw (← long)
       (table-put s (map (λ x. kindNumber (x .kind)) cs) (map (λ x. length (x .waiting)) cs) (map (λ x. x .ticket) cs) (map (λ x. x .weight) cs)
-      (map (λ x. x .deficit) cs) (map (λ x. x .serial) cs) (runOf cs) i (before cs (suc i)) (fit-of F) number-within r (length rs) fits (omega arith)
-      (before-within cs (suc i)) (run-free free)
+      (map (λ x. x .deficit) cs) (map (λ x. x .serial) cs) (runOf cs) i m (before cs (suc i)) (fit-of F) number-within last r (length rs) fits (omega arith)
+      (before-within cs (suc i)) far
       ∙ queue-table s i rs (insertAt (before cs (suc i)) r (runOf cs)) (run-insert cs i r slot-within))
 
   -- the oldest record of slot i leaves
-  pub record-taken : (r : Record) (rest : List Record) → at (s .channels) i .waiting ≡ r ∷ rest
-      → set (recordDropped (bytesOf s) (length (runOf (s .channels))) (before (s .channels) i)) (128 + i) (length (at (s .channels) i .waiting) - 1)
+  pub record-taken : (m : ℕ) (r : Record) (rest : List Record) → m < 1024 → length (runOf (s .channels)) ≤ m + 1 → at (s .channels) i .waiting ≡ r ∷ rest
+      → set (recordDropped (bytesOf s) m (before (s .channels) i)) (128 + i) (length (at (s .channels) i .waiting) - 1)
       ≡ bytesOf (queueNow s i rest)
   unfolding bytesOf
-  record-taken r rest e =
+  record-taken m r rest last far e =
       let cs = s .channels in
       let some : length (at (s .channels) i .waiting) ≡ suc (length rest) = ap length e in
       let long : length (at (s .channels) i .waiting) - 1 ≡ length rest = omega arith in
@@ -198,7 +195,7 @@ module _ {s : State} (F : Fits s) (i : ℕ) (h : i < 64) where
       let low : before (s .channels) i < length (runOf (s .channels)) = rw here at (run-within (s .channels) i 0 (omega arith)) in
       rw long
       (table-drop s (map (λ x. kindNumber (x .kind)) cs) (map (λ x. length (x .waiting)) cs) (map (λ x. x .ticket) cs) (map (λ x. x .weight) cs)
-      (map (λ x. x .deficit) cs) (map (λ x. x .serial) cs) (runOf cs) i (before cs i) (fit-of F) number-within (length rest) (omega (arith, F .slot i .few)) low
+      (map (λ x. x .deficit) cs) (map (λ x. x .serial) cs) (runOf cs) i m (before cs i) (fit-of F) number-within last (length rest) (omega (arith, F .slot i .few)) low far
       ∙ queue-table s i rest (removeAt (before cs i) (runOf cs)) (run-remove cs i r rest e))
 
 -- ---- the same, told by the bytes that the code reads
@@ -212,25 +209,27 @@ pub some-left : {s : State} (i : ℕ) (h : Record) (rest : List Record) → Fits
     → (firstAt (bytesOf s) 64 ≤ 1024) × (0 < waitingAt (bytesOf s) i)
 some-left i h rest F l e = (omega (arith, total-is F, run-few F), omega (arith, waiting-is F i l, ap length e))
 
-module _ {s : State} (b : List ℕ) (i place total waiting : ℕ) (F : Fits s) (memory : b ≡ bytesOf s) (h : i < 64)
-    (all : total ≡ firstAt b 64) (here : waiting ≡ waitingAt b i) where
-  pub bytes-added : (n r : ℕ) → place ≡ firstAt b (i + 1) → waiting < 16 → n < 256 ^ 2 → r < 256 ^ 4
-      → set (recordPut b total place n r) (128 + i) (waiting + 1) ≡ bytesOf (recordAdded s i (record { size = n; reference = r }))
-  bytes-added n r at-place free size reference =
+module _ {s : State} (b : List ℕ) (i place last waiting : ℕ) (F : Fits s) (memory : b ≡ bytesOf s) (h : i < 64)
+    (free : last < 1024) (here : waiting ≡ waitingAt b i) where
+  -- the bytes tell how many records wait in all
+  total : firstAt b 64 ≡ length (runOf (s .channels))
+  total = rw memory (total-is F)
+
+  pub bytes-added : (n r : ℕ) → firstAt b 64 ≤ last → place ≡ firstAt b (i + 1) → waiting < 16 → n < 256 ^ 2 → r < 256 ^ 4
+      → set (recordPut b last place n r) (128 + i) (waiting + 1) ≡ bytesOf (recordAdded s i (record { size = n; reference = r }))
+  bytes-added n r far at-place few size reference =
       let next : i + 1 ≡ suc i = omega arith in
       let p : place ≡ before (s .channels) (suc i) = at-place ∙ rw (memory, next) (first-is F (suc i) h) in
-      let m : total ≡ length (runOf (s .channels)) = all ∙ rw memory (total-is F) in
       let w : waiting ≡ length (at (s .channels) i .waiting) = here ∙ rw memory (waiting-is F i h) in
-      rw (p, m, w, memory)
-      (record-added F i h (record { size = n; reference = r }) (record { size-fits = size; reference-fits = reference }) (omega arith))
+      rw (p, w, memory)
+      (record-added F i h last (record { size = n; reference = r }) free (omega (arith, total)) (record { size-fits = size; reference-fits = reference }) (omega arith))
 
-  pub bytes-taken : (r : Record) (rest : List Record) → place ≡ firstAt b i → at (s .channels) i .waiting ≡ r ∷ rest
-      → set (recordDropped b total place) (128 + i) (waiting - 1) ≡ bytesOf (queueNow s i rest)
-  bytes-taken r rest at-place e =
+  pub bytes-taken : (r : Record) (rest : List Record) → firstAt b 64 ≤ last + 1 → place ≡ firstAt b i → at (s .channels) i .waiting ≡ r ∷ rest
+      → set (recordDropped b last place) (128 + i) (waiting - 1) ≡ bytesOf (queueNow s i rest)
+  bytes-taken r rest far at-place e =
       let p : place ≡ before (s .channels) i = at-place ∙ rw memory (first-is F i (omega arith)) in
-      let m : total ≡ length (runOf (s .channels)) = all ∙ rw memory (total-is F) in
       let w : waiting ≡ length (at (s .channels) i .waiting) = here ∙ rw memory (waiting-is F i h) in
-      rw (p, m, w, memory) (record-taken F i h r rest e)
+      rw (p, w, memory) (record-taken F i h last r rest free (omega (arith, total)) e)
 
 -- ---- the same, as the code does it, step by step
 
@@ -239,7 +238,7 @@ pub put-steps : {b1 b2 b3 b4 : List ℕ} (b : List ℕ) (m p n r : ℕ) → b1 �
 unfolding recordPut
 put-steps b m p n r e1 e2 e3 e4 = rw (e4, e3, e2, e1)
 
-pub drop-steps : {b1 b2 b3 b4 : List ℕ} (b : List ℕ) (m p : ℕ) → b1 ≡ edited (closing m p) 896 1024 2 b → b2 ≡ put (upward (896 + (m - 1)) 1024) 2 b1 0
-    → b3 ≡ edited (closing m p) 2944 1024 4 b2 → b4 ≡ put (upward (2944 + (m - 1)) 1024) 4 b3 0 → b4 ≡ recordDropped b m p
+pub drop-steps : {b1 b2 b3 b4 : List ℕ} (b : List ℕ) (m p : ℕ) → b1 ≡ edited (closing m p) 896 1024 2 b → b2 ≡ put (upward (896 + m) 1024) 2 b1 0
+    → b3 ≡ edited (closing m p) 2944 1024 4 b2 → b4 ≡ put (upward (2944 + m) 1024) 4 b3 0 → b4 ≡ recordDropped b m p
 unfolding recordDropped
 drop-steps b m p e1 e2 e3 e4 = rw (e4, e3, e2, e1)

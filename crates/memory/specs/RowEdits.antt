@@ -12,10 +12,10 @@ use Rattle.bits.specs.Slots.{occurs}
 use Rattle.bits.specs.SlotsLaws.{if-eq, occurs-same, occurs-other, occurs-tail, occurs-append, without, without-absent, keep-part, part-append, part-without}
 use Rattle.octets.specs.Slide.{slid}
 use Rattle.rules.specs.State.{State}
-use Rattle.memory.specs.Fields.{field, lay, removeAt, tab, edited}
+use Rattle.memory.specs.Fields.{field, lay, removeAt, tab, edited, closing}
 use Rattle.memory.specs.Tables.{length-removeAt}
 use Rattle.memory.specs.Fits.{fit-at, fit-set, fitting-append, fitting-remove}
-use Rattle.memory.specs.FieldEdits.{lay-append-one, lay-write-one, lay-remove}
+use Rattle.memory.specs.FieldEdits.{put-places-one, lay-append-one, lay-write-one, lay-close-put}
 use Rattle.memory.specs.Layout.{one, fieldsOf, bytesOf}
 use Rattle.memory.specs.Reading.{rowsAt}
 use Rattle.memory.specs.Edits.{rowJoined, rowGone}
@@ -135,8 +135,11 @@ row-gone {s} i p F h e =
     let fit1 = fit-set fs0 0 rows fit0 (fitting-remove (field 64 1 (s .rows)) (fit-at fs0 0 fit0) p h) in
     let gone : without i (s .rows) ≡ removeAt p (s .rows) = without-place i p (s .rows) h e (F .once i) in
     let short : length (s .rows) - 1 ≡ length (removeAt p (s .rows)) = omega (arith, length-removeAt p (s .rows) h) in
+    let moved : length (s .rows) - 1 - p ≡ length (s .rows) - p - 1 = omega arith in
     let closed : set (slid (p + 1) p (m - p - 1) (lay fs0)) (m - 1) 0 ≡ lay fs1
-    = rw (zero-add p, zero-add (m - 1)) at (lay-remove fs0 0 m p fit0 (omega arith) refl h) in
+    = rw (zero-add p, zero-add (m - 1), moved) at
+    (sym (put-places-one fs0 0 (m - 1) 0 (edited (closing (m - 1) p) 0 64 1 (lay fs0)) refl (omega arith))
+    ∙ lay-close-put fs0 0 (m - 1) p fit0 (omega arith) (omega (arith, rows-few F)) h (omega arith)) in
     ap (λ (b : List ℕ). set b 832 (m - 1)) closed
     ∙ lay-write-one fs1 7 0 (m - 1) fit1 (omega arith) refl (omega (arith, rows-few F)) (omega arith)
     ∙ ap (λ (n : ℕ). lay (set fs1 7 (one 1 n))) short

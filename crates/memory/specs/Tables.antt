@@ -42,13 +42,6 @@ module _ {A : Type 0} where
   insertAt-last v [] = refl
   insertAt-last v (x ∷ xs) = ap (λ (l : List A). x ∷ l) (insertAt-last v xs)
 
-  -- put in, and then another written over it
-  pub set-insertAt : (i : ℕ) (v w : A) (xs : List A) → i ≤ length xs → set (insertAt i v xs) i w ≡ insertAt i w xs
-  unfolding insertAt
-  set-insertAt zero v w xs h = refl
-  set-insertAt (suc i) v w [] h = absurd (not-suc-le-zero h)
-  set-insertAt (suc i) v w (x ∷ xs) h = ap (λ (l : List A). x ∷ l) (set-insertAt i v w xs (le-of-suc-le-suc h))
-
   -- ---- an element taken out
 
   pub length-removeAt : (i : ℕ) (xs : List A) → i < length xs → suc (length (removeAt i xs)) ≡ length xs

@@ -57,12 +57,26 @@ pub fn load_record(state: &[u8], place: usize) -> Entry
     }
 }
 
-// In each line of a field of the records, the cells from a place on up to the last in use move up by one.
-fn open_lines(state: &mut [u8], field: usize, width: usize, place: usize, total: usize)
-    requires { ⌜ (place ≤ total) × (total < 1024) × (width ≤ 4) × (field + 1024 * width ≤ length (now state)) ⌝ }
-    ensures { λ _. ⌜ now (state .exit) ≡ edited (opening total place) field 1024 width (now (state .entry)) ⌝ }
+// The last cell of a slide from a place on, in which the cells up to `end` must take part: a whole number of steps of 32 on, or the line's last. The cells
+// behind the run are 0, so taking them along is a matter of speed only: compiled code moves 32 cells a step, and any left over one by one.
+fn in_steps(place: usize, end: usize) -> usize
+    requires { ⌜ (place ≤ end) × (end < 1024) ⌝ }
+    ensures { λ r. ⌜ (place ≤ r) × (end ≤ r) × (r < 1024) ⌝ }
 {
-    let n = total - place;
+    let steps = (end - place + 31) / 32;
+    let far = place + steps * 32;
+    if far < RECORDS {
+        return far;
+    }
+    RECORDS - 1
+}
+
+// In each line of a field of the records, the cells from a place on up to the last move up by one, and the last is lost.
+fn open_lines(state: &mut [u8], field: usize, width: usize, place: usize, last: usize)
+    requires { ⌜ (place ≤ last) × (last < 1024) × (width ≤ 4) × (field + 1024 * width ≤ length (now state)) ⌝ }
+    ensures { λ _. ⌜ now (state .exit) ≡ edited (opening last place) field 1024 width (now (state .entry)) ⌝ }
+{
+    let n = last - place;
     let mut j = 0;
     while j < width {
         let line = field + RECORDS * j;
@@ -71,12 +85,12 @@ fn open_lines(state: &mut [u8], field: usize, width: usize, place: usize, total:
     }
 }
 
-// In each line of a field of the records, the cells behind a place up to the last in use move down by one.
-fn close_lines(state: &mut [u8], field: usize, width: usize, place: usize, total: usize)
-    requires { ⌜ (place < total) × (total ≤ 1024) × (width ≤ 4) × (field + 1024 * width ≤ length (now state)) ⌝ }
-    ensures { λ _. ⌜ now (state .exit) ≡ edited (closing total place) field 1024 width (now (state .entry)) ⌝ }
+// In each line of a field of the records, the cells behind a place up to the last move down by one, and the last keeps its byte.
+fn close_lines(state: &mut [u8], field: usize, width: usize, place: usize, last: usize)
+    requires { ⌜ (place ≤ last) × (last < 1024) × (width ≤ 4) × (field + 1024 * width ≤ length (now state)) ⌝ }
+    ensures { λ _. ⌜ now (state .exit) ≡ edited (closing last place) field 1024 width (now (state .entry)) ⌝ }
 {
-    let n = total - place - 1;
+    let n = last - place;
     let mut j = 0;
     while j < width {
         let line = field + RECORDS * j;
@@ -85,30 +99,29 @@ fn close_lines(state: &mut [u8], field: usize, width: usize, place: usize, total
     }
 }
 
-// A record is put in at a place of the run, and those from there on move up.
-fn put_record(state: &mut [u8], place: usize, total: usize, size: u16, reference: u32)
-    requires { ⌜ (length (now state) ≡ 7040) × (place ≤ total) × (total < 1024) ⌝ }
-    ensures { λ _. ⌜ now (state .exit) ≡ recordPut (now (state .entry)) total place size reference ⌝ }
+// A record is put in at a place of the run, and the cells from there on up to the last move up.
+fn put_record(state: &mut [u8], place: usize, last: usize, size: u16, reference: u32)
+    requires { ⌜ (length (now state) ≡ 7040) × (place ≤ last) × (last < 1024) ⌝ }
+    ensures { λ _. ⌜ now (state .exit) ≡ recordPut (now (state .entry)) last place size reference ⌝ }
 {
     let in_sizes = SIZE + place;
     let in_references = REFERENCE + place;
-    open_lines(state, SIZE, 2, place, total);
+    open_lines(state, SIZE, 2, place, last);
     write_u16(state, in_sizes, RECORDS, size);
-    open_lines(state, REFERENCE, 4, place, total);
+    open_lines(state, REFERENCE, 4, place, last);
     write_u32(state, in_references, RECORDS, reference);
 }
 
-// The record at a place of the run is taken out, those behind it move down, and the last cell in use is cleared.
-fn drop_record(state: &mut [u8], place: usize, total: usize)
-    requires { ⌜ (length (now state) ≡ 7040) × (place < total) × (total ≤ 1024) ⌝ }
-    ensures { λ _. ⌜ now (state .exit) ≡ recordDropped (now (state .entry)) total place ⌝ }
+// The record at a place of the run is taken out, the cells behind it up to the last move down, and the last is cleared.
+fn drop_record(state: &mut [u8], place: usize, last: usize)
+    requires { ⌜ (length (now state) ≡ 7040) × (place ≤ last) × (last < 1024) ⌝ }
+    ensures { λ _. ⌜ now (state .exit) ≡ recordDropped (now (state .entry)) last place ⌝ }
 {
-    let last = total - 1;
     let in_sizes = SIZE + last;
     let in_references = REFERENCE + last;
-    close_lines(state, SIZE, 2, place, total);
+    close_lines(state, SIZE, 2, place, last);
     write_u16(state, in_sizes, RECORDS, 0);
-    close_lines(state, REFERENCE, 4, place, total);
+    close_lines(state, REFERENCE, 4, place, last);
     write_u32(state, in_references, RECORDS, 0);
 }
 
@@ -121,7 +134,8 @@ pub fn add_record(state: &mut [u8], slot: usize, size: u16, reference: u32)
     let waiting = state[WAITING + slot];
     let place = first_of(state, slot + 1);
     let total = first_of(state, SLOTS);
-    put_record(state, place, total, size, reference);
+    let last = in_steps(place, total);
+    put_record(state, place, last, size, reference);
     state[WAITING + slot] = waiting + 1;
 }
 
@@ -134,6 +148,7 @@ pub fn take_record(state: &mut [u8], slot: usize)
     let waiting = state[WAITING + slot];
     let place = first_of(state, slot);
     let total = first_of(state, SLOTS);
-    drop_record(state, place, total);
+    let last = in_steps(place, total - 1);
+    drop_record(state, place, last);
     state[WAITING + slot] = waiting - 1;
 }

@@ -25,13 +25,16 @@ first-of-requires c κs = search needs
 first-of-requires-2 : tie.Need-first-of-requires-2
 first-of-requires-2 c κs = search needs
 
-put-record-requires : tie.Need-put-record-requires
-put-record-requires c κs =
-    let all = c .before .first-of2 in
-    let first = c .before .before .before .first-of in
-    let a = c .before .before .before .before .before .before .before .args in
+in-steps-requires : tie.Need-in-steps-requires
+in-steps-requires c κs =
+    let all = c .first-of2 in
+    let first = c .before .before .first-of in
+    let a = c .before .before .before .before .before .before .args in
     let b = now (a .state) in
     omega (arith, first-next b (a .slot), first-within b (a .slot) 64 (omega arith), first .ensures, all .ensures)
+
+put-record-requires : tie.Need-put-record-requires
+put-record-requires c κs = search needs
 
 add-state : tie.Need-add-state
 add-state c = search needs
@@ -48,13 +51,15 @@ same-length c = search needs
 returns : tie.Need-returns
 returns c =
     let edit = c .before .before in
-    let all = edit .before .before .first-of2 in
-    let first = edit .before .before .before .before .first-of in
-    let a = edit .before .before .before .before .before .before .before .before .args in
+    let last = edit .before .before .in-steps in
+    let all = edit .before .before .before .first-of2 in
+    let first = edit .before .before .before .before .before .first-of in
+    let a = edit .before .before .before .before .before .before .before .before .before .args in
     let b = now (a .state) in
     λ s F e.
     rw (edit .put-record .ensures)
-    (bytes-added b (a .slot) (first .result) (all .result) (getD b (128 + a .slot) 0) F e (omega arith) (all .ensures) refl (a .size) (a .reference) (first .ensures) (omega arith) (omega arith) (omega arith))
+    (bytes-added b (a .slot) (first .result) (last .result) (getD b (128 + a .slot) 0) F e (omega arith) (omega arith) refl (a .size) (a .reference)
+    (omega (arith, all .ensures)) (first .ensures) (omega arith) (omega arith) (omega arith))
 
 pub add-record-spec : {M : Type 1} → statement M
 add-record-spec =
@@ -65,6 +70,7 @@ add-record-spec =
     add-first-of
     first-of-requires
     first-of-requires-2
+    in-steps-requires
     put-record-requires
     add-state
     add-state-2

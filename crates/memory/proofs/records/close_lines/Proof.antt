@@ -11,21 +11,18 @@ use Rattle.memory.proofs.records.close_lines.Statement.{statement}
 use Rattle.memory.proofs.records.close_lines.Tie as tie
 
 abbrev Inv-loop : tie.InvT-loop
-Inv-loop state₀ field width place total n j₀ state j = (j ≤ width) × (n ≡ total - place - 1) × (length state ≡ length state₀) × (state ≡ edited (closing total place) field 1024 j state₀)
+Inv-loop state₀ field width place last n j₀ state j = (j ≤ width) × (n ≡ last - place) × (length state ≡ length state₀) × (state ≡ edited (closing last place) field 1024 j state₀)
 
 abbrev μ-loop : tie.MeasureT-loop
-μ-loop state₀ field width place total n j₀ state j = width - j
+μ-loop state₀ field width place last n j₀ state j = width - j
 
 sub-n : tie.Need-sub-n Inv-loop μ-loop
 sub-n c = search needs
 
-sub-n-2 : tie.Need-sub-n-2 Inv-loop μ-loop
-sub-n-2 c = search needs
-
 loop-holds : tie.Need-loop-holds Inv-loop μ-loop
 loop-holds c =
     let a = c .before .args in
-    (search needs, refl, refl, sym (edited-none (closing (a .total) (a .place)) (a .field) 1024 (now (a .state))))
+    (search needs, refl, refl, sym (edited-none (closing (a .last) (a .place)) (a .field) 1024 (now (a .state))))
 
 mul-line : tie.Need-mul-line Inv-loop μ-loop
 mul-line c = search needs
@@ -50,7 +47,7 @@ loop-again c =
     let a = c .before .before .before .before .before .before .before .args in
     let l = c .before .before .before .before .before .loop in
     let slid = c .before .before .slide-down .ensures in
-    (search needs, refl, search needs, edited-turn (closing (a .total) (a .place)) (a .field) 1024 (l .j) (now (a .state)) (l .state) _ (l .inv .3) slid)
+    (search needs, refl, search needs, edited-turn (closing (a .last) (a .place)) (a .field) 1024 (l .j) (now (a .state)) (l .state) _ (l .inv .3) slid)
 
 same-length : tie.Need-same-length Inv-loop μ-loop
 same-length c = search needs
@@ -69,7 +66,6 @@ close-lines-spec =
     Inv-loop
     μ-loop
     sub-n
-    sub-n-2
     loop-holds
     mul-line
     add-line

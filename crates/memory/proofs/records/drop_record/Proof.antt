@@ -5,9 +5,6 @@ use Rattle.memory.specs.RecordEdits.{drop-steps}
 use Rattle.memory.proofs.records.drop_record.Statement.{statement}
 use Rattle.memory.proofs.records.drop_record.Tie as tie
 
-sub-last : tie.Need-sub-last
-sub-last c = search needs
-
 add-in-sizes : tie.Need-add-in-sizes
 add-in-sizes c = search needs
 
@@ -36,13 +33,12 @@ returns c =
     let w2 = w3 .before .before .before .before in
     let w1 = w2 .before .before .before .before in
     let a = w1 .before .before .before .args in
-    drop-steps (now (a .state)) (a .total) (a .place) (w1 .close-lines .ensures) (w2 .write-u16 .ensures) (w3 .close-lines2 .ensures) (w4 .write-u32 .ensures)
+    drop-steps (now (a .state)) (a .last) (a .place) (w1 .close-lines .ensures) (w2 .write-u16 .ensures) (w3 .close-lines2 .ensures) (w4 .write-u32 .ensures)
 
 pub drop-record-spec : {M : Type 1} → statement M
 drop-record-spec =
     tie.close
     (tie.spec
-    sub-last
     add-in-sizes
     add-in-references
     close-lines-requires

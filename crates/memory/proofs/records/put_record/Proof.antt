@@ -33,7 +33,7 @@ returns c =
     let w2 = w3 .before .before .before .before in
     let w1 = w2 .before .before .before .before in
     let a = w1 .before .before .before .args in
-    put-steps (now (a .state)) (a .total) (a .place) (a .size) (a .reference) (w1 .open-lines .ensures) (w2 .write-u16 .ensures) (w3 .open-lines2 .ensures)
+    put-steps (now (a .state)) (a .last) (a .place) (a .size) (a .reference) (w1 .open-lines .ensures) (w2 .write-u16 .ensures) (w3 .open-lines2 .ensures)
     (w4 .write-u32 .ensures)
 
 pub put-record-spec : {M : Type 1} → statement M
