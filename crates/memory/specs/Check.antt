@@ -1,6 +1,6 @@
 -- The check of a lent memory as the code goes about it: loop by loop, over the numbers that stand in the lines. specs/Checked shows that it is
 -- `soundBytes`. Assumes nothing.
-use Prim.Native.Nat.{ℕ, zero, suc, _+_, _-_, _*_, _^_}
+use Prim.Native.Nat.{ℕ, zero, suc, _+_, _-_}
 use mathlib.Core.Bool.{Bool, true, not, cond, _&&_, _||_}
 use mathlib.Core.List.{List}
 use lib.Bits.{bitOr}
@@ -114,27 +114,31 @@ rowsRule b n = leb n slots && (belowRule b n && (clear b n (64 - n) && countedRu
 
 -- ---- order, position, slots to visit
 
--- the union of the weights of the first k rows
+-- the weight of a slot in which so many records wait, if it is a row
+abbrev pub rowWeight : ℕ → ℕ → ℕ
+rowWeight waiting weight = cond (eqb waiting 0) 0 weight
+
+-- the union of the weights of those of the first k slots that are rows
 unfoldable pub union : List ℕ → ℕ → ℕ
 union b zero = 0
-union b (suc k) = bitOr (union b k) (weightAt b (getD b k 0))
+union b (suc k) = bitOr (union b k) (rowWeight (waitingAt b k) (weightAt b k))
 
-unfoldable pub orderRule : List ℕ → ℕ → Bool
-orderRule b n = eqb (getD b 833 0) (order (union b n)) && leb (order (positionAt b)) (getD b 833 0)
+-- the order is the union's, and the position takes no more bits than that
+unfoldable pub orderRule : List ℕ → Bool
+orderRule b = eqb (getD b 833 0) (order (union b 64)) && leb (order (positionAt b)) (getD b 833 0)
 
--- the mask of those of the first k rows whose weight has bit c
-unfoldable pub columnMask : List ℕ → ℕ → ℕ → ℕ
-columnMask b c zero = 0
-columnMask b c (suc k) = bitOr (columnMask b c k) (bit c (weightAt b (getD b k 0)) * 2 ^ getD b k 0)
+-- a slot in which so many records wait, and of this weight, is a row of column c
+abbrev pub rowOfRule : ℕ → ℕ → ℕ → Bool
+rowOfRule c waiting weight = not (eqb waiting 0) && eqb (bit c weight) 1
 
--- column c, with a mask in which slots are left, and with an empty one
-abbrev pub maskWithin : ℕ → ℕ → Bool
-maskWithin mask held = eqb (bitOr mask held) held
+-- a slot that is in the mask is one
+unfoldable pub inColumnRule : List ℕ → ℕ → ℕ → Bool
+inColumnRule b mask c = allBelow 64 (λ i. not (eqb (bit i mask) 1) || rowOfRule c (waitingAt b i) (weightAt b i))
 
-unfoldable pub toVisitRule : List ℕ → ℕ → Bool
-toVisitRule b n =
-    cond (eqb (maskAt b) 0) (eqb (getD b 836 0) 0)
-    (ltb (getD b 836 0) columns && maskWithin (maskAt b) (columnMask b (getD b 836 0) n))
+-- the column, with an empty mask and with one in which slots are left
+unfoldable pub toVisitRule : List ℕ → Bool
+toVisitRule b =
+    cond (eqb (maskAt b) 0) (eqb (getD b 836 0) 0) (ltb (getD b 836 0) columns && inColumnRule b (maskAt b) (getD b 836 0))
 
 -- ---- deficits
 
@@ -154,10 +158,10 @@ deficitsRule b (suc v) = ltb v slots && (visitedRule b v && (calm b 640 v && cal
 
 -- ---- the whole
 
-unfoldable pub scanRule : List ℕ → ℕ → Bool
-scanRule b n = orderRule b n && (toVisitRule b n && (deficitsRule b (getD b 845 0) && clear b 846 50))
+unfoldable pub scanRule : List ℕ → Bool
+scanRule b = orderRule b && (toVisitRule b && (deficitsRule b (getD b 845 0) && clear b 846 50))
 
 unfoldable pub checked : List ℕ → Bool
 checked b =
     eqb (length b) memoryLength
-    && (headsRule b && (recordsRule b (firstAt b 64) && (rowsRule b (getD b 832 0) && scanRule b (getD b 832 0))))
+    && (headsRule b && (recordsRule b (firstAt b 64) && (rowsRule b (getD b 832 0) && scanRule b)))

@@ -12,15 +12,14 @@ use Rattle.bits.specs.BitLaws.{bit-lt, bit-none}
 use Rattle.bits.specs.Order.{order}
 use Rattle.bits.specs.Slots.{oneIf}
 use Rattle.octets.specs.Number.{upward, Bytes}
-use Rattle.octets.specs.NumberLaws.{num-lt}
 use Rattle.rules.proofs.TestLists.{Hold}
 use Rattle.memory.specs.Layout.{memoryLength}
 use Rattle.memory.specs.Reading.{waitingAt, firstAt}
-use Rattle.memory.specs.Check.{deficitAt, sizeAt, maskAt, positionAt, headAt, headsRule, referenceAt, emptyRule, behindRule, recordsRule, clear, found, belowRule, countedRule, rowsRule, union, orderRule, columnMask, maskWithin, toVisitRule, calm, visitedRule, deficitsRule, scanRule}
-use Rattle.memory.specs.ColumnMasks.{within-bits, bits-within, column-mask-lt}
+use Rattle.memory.specs.Check.{weightAt, deficitAt, sizeAt, referenceAt, maskAt, positionAt, headAt, headsRule, emptyRule, behindRule, recordsRule, clear, found, belowRule, countedRule, rowsRule, union, orderRule, inColumnRule, toVisitRule, calm, visitedRule, deficitsRule, scanRule}
 use Rattle.memory.specs.ByteTests.{both-true, true-both}
 use Rattle.memory.specs.NumbersRead.{deficit-read}
 use Rattle.memory.specs.CheckTurns.{all-at, all-intro}
+use Rattle.memory.specs.MaskSlots.{column-at, at-column}
 use Rattle.memory.specs.HeadFacts.{HeadFacts, some-not, not-some}
 
 -- ---- a list of tests
@@ -42,6 +41,10 @@ hold-every (x ∷ y ∷ ys) h = true-both (h .0) (hold-every (y ∷ ys) (h .1))
 
 -- ---- the facts
 
+-- slot i is a row of the noted column: it has records, and its weight the column's bit
+abbrev pub InColumn : List ℕ → ℕ → Type 0
+InColumn b i = (1 ≤ waitingAt b i) × (bit (getD b 836 0) (weightAt b i) ≡ 1)
+
 pub record Visited (b : List ℕ) (v : ℕ) : Type 0 where
   pub slot : v < 64
   pub waits : 1 ≤ waitingAt b v
@@ -59,11 +62,11 @@ pub record Passed (b : List ℕ) : Type 0 where
   pub below : (k : ℕ) → k < getD b 832 0 → getD b k 0 < 64
   pub rows-end : (k : ℕ) → getD b 832 0 ≤ k → k < 64 → getD b k 0 ≡ 0
   pub counted : (i : ℕ) → i < 64 → found b i (getD b 832 0) ≡ oneIf (not (eqb (waitingAt b i) 0))
-  pub order-is : getD b 833 0 ≡ order (union b (getD b 832 0))
+  pub order-is : getD b 833 0 ≡ order (union b 64)
   pub position : positionAt b < 2 ^ getD b 833 0
   pub no-column : maskAt b ≡ 0 → getD b 836 0 ≡ 0
   pub narrow : getD b 836 0 < 12
-  pub to-visit : (c : ℕ) → bit c (maskAt b) ≡ 1 → bit c (columnMask b (getD b 836 0) (getD b 832 0)) ≡ 1
+  pub to-visit : (i : ℕ) → i < 64 → bit i (maskAt b) ≡ 1 → InColumn b i
   pub visited : (v : ℕ) → getD b 845 0 ≡ suc v → Visited b v
   pub resting : (i : ℕ) → i < 64 → (getD b 845 0 ≡ suc i → ⊥) → deficitAt b i ≤ 1023
   pub spare : (k : ℕ) → k < 50 → getD b (846 + k) 0 ≡ 0
@@ -117,13 +120,13 @@ at-resting b from n h =
 
 abbrev pub wholeTests : List ℕ → List Bool
 wholeTests b =
-    eqb (length b) memoryLength ∷ headsRule b ∷ recordsRule b (firstAt b 64) ∷ rowsRule b (getD b 832 0) ∷ scanRule b (getD b 832 0) ∷ []
+    eqb (length b) memoryLength ∷ headsRule b ∷ recordsRule b (firstAt b 64) ∷ rowsRule b (getD b 832 0) ∷ scanRule b ∷ []
 
 abbrev pub rowTests : List ℕ → ℕ → List Bool
 rowTests b n = leb n 64 ∷ belowRule b n ∷ clear b n (64 - n) ∷ countedRule b n ∷ []
 
-abbrev pub scanTests : List ℕ → ℕ → List Bool
-scanTests b n = orderRule b n ∷ toVisitRule b n ∷ deficitsRule b (getD b 845 0) ∷ clear b 846 50 ∷ []
+abbrev pub scanTests : List ℕ → List Bool
+scanTests b = orderRule b ∷ toVisitRule b ∷ deficitsRule b (getD b 845 0) ∷ clear b 846 50 ∷ []
 
 abbrev visitedTests : List ℕ → ℕ → List Bool
 visitedTests b v =
@@ -193,46 +196,44 @@ visit-deficits b (suc v) f g =
     hold-every (visitTests b v)
     (lt-ltb v 64 low, (facts-visited b v held, (at-resting b 0 v (λ i l h. g i (omega arith) (λ e. omega arith)), (behind, tt))))
 
--- the rule of the slots to visit
-pub to-visit-mask : (b : List ℕ) (n : ℕ) → toVisitRule b n ≡ true → (c : ℕ) → bit c (maskAt b) ≡ 1 → bit c (columnMask b (getD b 836 0) n) ≡ 1
-unfolding toVisitRule
-to-visit-mask b n e c one = go (eqb (maskAt b) 0) refl e
-  where
-    column : ℕ
-    column = getD b 836 0
+-- ---- the rule of the slots to visit
 
-    go : (t : Bool) → eqb (maskAt b) 0 ≡ t → cond t (eqb column 0) (ltb column 12 && maskWithin (maskAt b) (columnMask b column n)) ≡ true
-        → bit c (columnMask b column n) ≡ 1
-    go true z h = let none : bit c (maskAt b) ≡ 0 = rw (eqb-true (maskAt b) 0 z) (bit-none c) in absurd (omega arith)
-    go false z h =
-        within-bits (maskAt b) (columnMask b column n)
-        (eqb-true _ _ (both-true (ltb column 12) (maskWithin (maskAt b) (columnMask b column n)) h .1)) c one
+module _ (b : List ℕ) where
+  -- it, by whether the mask is empty
+  abbrev toVisitIf : Bool → Bool
+  toVisitIf none = cond none (eqb (getD b 836 0) 0) (ltb (getD b 836 0) 12 && inColumnRule b (maskAt b) (getD b 836 0))
 
-pub to-visit-none : (b : List ℕ) (n : ℕ) → toVisitRule b n ≡ true → maskAt b ≡ 0 → getD b 836 0 ≡ 0
-unfolding toVisitRule
-to-visit-none b n e z = eqb-true _ _ (rw (eq-eqb (maskAt b) 0 z) at e)
+  pub to-visit-column : toVisitRule b ≡ true → (i : ℕ) → i < 64 → bit i (maskAt b) ≡ 1 → InColumn b i
+  unfolding toVisitRule
+  to-visit-column e i l one = go (eqb (maskAt b) 0) refl e
+    where
+      go : (t : Bool) → eqb (maskAt b) 0 ≡ t → toVisitIf t ≡ true → InColumn b i
+      go true z h = let none : bit i (maskAt b) ≡ 0 = rw (eqb-true (maskAt b) 0 z) (bit-none i) in absurd (omega arith)
+      go false z h =
+          let (n, column) = both-true (ltb (getD b 836 0) 12) (inColumnRule b (maskAt b) (getD b 836 0)) h in
+          let (w, c) = both-true _ _ (column-at b (getD b 836 0) (maskAt b) column i l one) in
+          (some-not (waitingAt b i) w, eqb-true _ _ c)
 
-pub to-visit-narrow : (b : List ℕ) (n : ℕ) → toVisitRule b n ≡ true → getD b 836 0 < 12
-unfolding toVisitRule
-to-visit-narrow b n e = go (eqb (maskAt b) 0) e
-  where
-    column : ℕ
-    column = getD b 836 0
+  pub to-visit-none : toVisitRule b ≡ true → maskAt b ≡ 0 → getD b 836 0 ≡ 0
+  unfolding toVisitRule
+  to-visit-none e z = eqb-true _ _ (rw (eq-eqb (maskAt b) 0 z) at e)
 
-    go : (t : Bool) → cond t (eqb column 0) (ltb column 12 && maskWithin (maskAt b) (columnMask b column n)) ≡ true → column < 12
-    go true h = omega (arith, eqb-true column 0 h)
-    go false h = ltb-true column 12 (both-true (ltb column 12) (maskWithin (maskAt b) (columnMask b column n)) h .0)
+  pub to-visit-narrow : toVisitRule b ≡ true → getD b 836 0 < 12
+  unfolding toVisitRule
+  to-visit-narrow e = go (eqb (maskAt b) 0) e
+    where
+      go : (t : Bool) → toVisitIf t ≡ true → getD b 836 0 < 12
+      go true h = omega (arith, eqb-true (getD b 836 0) 0 h)
+      go false h = ltb-true (getD b 836 0) 12 (both-true (ltb (getD b 836 0) 12) (inColumnRule b (maskAt b) (getD b 836 0)) h .0)
 
-pub mask-to-visit : (b : List ℕ) → Bytes b → (n : ℕ) → ((k : ℕ) → k < n → getD b k 0 < 64) → (maskAt b ≡ 0 → getD b 836 0 ≡ 0) → getD b 836 0 < 12
-    → ((c : ℕ) → bit c (maskAt b) ≡ 1 → bit c (columnMask b (getD b 836 0) n) ≡ 1) → toVisitRule b n ≡ true
-unfolding toVisitRule maskAt
-mask-to-visit b bytes n below none narrow h = go (eqb (maskAt b) 0) refl
-  where
-    column : ℕ
-    column = getD b 836 0
-
-    go : (t : Bool) → eqb (maskAt b) 0 ≡ t → cond t (eqb column 0) (ltb column 12 && maskWithin (maskAt b) (columnMask b column n)) ≡ true
-    go true z = eq-eqb column 0 (none (eqb-true (maskAt b) 0 z))
-    go false z =
-        true-both (lt-ltb column 12 narrow)
-        (eq-eqb _ _ (bits-within (maskAt b) (columnMask b column n) (num-lt (upward 837 1) 8 b bytes) (column-mask-lt b column n below) h))
+  pub column-to-visit : (maskAt b ≡ 0 → getD b 836 0 ≡ 0) → getD b 836 0 < 12 → ((i : ℕ) → i < 64 → bit i (maskAt b) ≡ 1 → InColumn b i)
+      → toVisitRule b ≡ true
+  unfolding toVisitRule
+  column-to-visit none narrow h = go (eqb (maskAt b) 0) refl
+    where
+      go : (t : Bool) → eqb (maskAt b) 0 ≡ t → toVisitIf t ≡ true
+      go true z = eq-eqb (getD b 836 0) 0 (none (eqb-true (maskAt b) 0 z))
+      go false z =
+          true-both (lt-ltb (getD b 836 0) 12 narrow)
+          (at-column b (getD b 836 0) (maskAt b)
+          (λ i l one. let (w, c) = h i l one in true-both (not-some (waitingAt b i) w) (eq-eqb _ _ c)))

@@ -11,7 +11,7 @@ use lib.Dec.{ltb, eqb}
 use lib.ListN.{getD, List·getD-eq-default}
 use borrow.Author.Tests.{eqb-true, eqb-false, eq-eqb, ne-eqb, ltb-true, ltb-false}
 use Rattle.bits.specs.Bit.{bit}
-use Rattle.bits.specs.BitLaws.{bit-cases, bit-none, bit-ext}
+use Rattle.bits.specs.BitLaws.{bit-high, bit-cases, bit-none, bit-ext}
 use Rattle.bits.specs.Slots.{oneIf, occurs}
 use Rattle.bits.specs.SlotsLaws.{occurs-keep, Part}
 use Rattle.octets.specs.Number.{upward, Bytes}
@@ -29,9 +29,8 @@ use Rattle.memory.specs.Reading.{kindOf, visitOf, waitingAt, firstAt, re
 use Rattle.memory.specs.Memory.{soundBytes}
 use Rattle.memory.specs.BytesOfState.{OnlyState}
 use Rattle.memory.specs.SoundBytes.{sound-bytes}
-use Rattle.memory.specs.Check.{weightAt, deficitAt, sizeAt, maskAt, positionAt, headAt, referenceAt}
-use Rattle.memory.specs.ColumnMasks.{column-mask-from}
-use Rattle.memory.specs.RowsRead.{empty-tab, occurs-rows, rows-high, found-lt, union-order, keep-within, empty-occurs}
+use Rattle.memory.specs.Check.{weightAt, deficitAt, sizeAt, referenceAt, maskAt, positionAt, headAt}
+use Rattle.memory.specs.RowsRead.{empty-tab, occurs-rows, rows-high, waits-row, row-waits, union-order, keep-within, empty-occurs}
 use Rattle.memory.specs.HeadFacts.{first-le}
 use Rattle.memory.specs.CheckFacts.{Passed}
 
@@ -137,7 +136,7 @@ module _ (b : List ℕ) (bytes : Bytes b) (P : Passed b) where
   weight-read i l = ap (λ (c : Channel). c .weight) (at-read i l)
 
   row-lt : (i : ℕ) → 1 ≤ occurs i (rowsAt b) → i < 64
-  row-lt i l = found-lt b (getD b 832 0) (P .below) i (rw (occurs-rows b i (getD b 832 0)) at l)
+  row-lt i l = row-waits b (getD b 832 0) (P .below) (P .counted) i l .0
 
   slot-of : (j : ℕ) (t : Bool) → ltb j 64 ≡ t → Slot visitLimit (rowsAt b) scanOf j (at (stateOf b .channels) j)
   unfolding stateOf
@@ -150,15 +149,23 @@ module _ (b : List ℕ) (bytes : Bytes b) (P : Passed b) where
       (slot-outside (rowsAt b) scanOf j (rows-high b (getD b 832 0) (P .below) j out)
       (λ e. omega (arith, P .visited j (visit-of (getD b 845 0) j e) .slot)))
 
-  -- a slot in the mask is a row of the noted column
-  in-column : (c : ℕ) → bit c (maskAt b) ≡ 1 → (1 ≤ occurs c (rowsAt b)) × (bit (getD b 836 0) (weightAt b c) ≡ 1)
-  in-column c o =
-      let (f, w) = column-mask-from b (getD b 836 0) (getD b 832 0) c (P .to-visit c o) in
-      (rw (occurs-rows b c (getD b 832 0)) f, w)
-
   mask-lt : maskAt b < 2 ^ 64
   unfolding maskAt
   mask-lt = num-lt (upward 837 1) 8 b bytes
+
+  in-mask-lt : (c : ℕ) → bit c (maskAt b) ≡ 1 → c < 64
+  in-mask-lt c o = go (ltb c 64) refl
+    where
+      go : (t : Bool) → ltb c 64 ≡ t → c < 64
+      go true e = ltb-true c 64 e
+      go false e = absurd (omega (arith, bit-high 64 c (maskAt b) mask-lt (ltb-false c 64 e)))
+
+  -- a slot in the mask is a row of the noted column
+  in-column : (c : ℕ) → bit c (maskAt b) ≡ 1 → (1 ≤ occurs c (rowsAt b)) × (bit (getD b 836 0) (weightAt b c) ≡ 1)
+  in-column c o =
+      let low : c < 64 = in-mask-lt c o in
+      let (waits, w) = P .to-visit c low o in
+      (waits-row b (getD b 832 0) (P .below) (P .counted) c low waits, w)
 
   part : Part (scanOf .toVisit) (columnOf (weights (stateOf b .channels)) (rowsAt b) (getD b 836 0))
   unfolding stateOf columnOf maskAt
@@ -187,7 +194,7 @@ module _ (b : List ℕ) (bytes : Bytes b) (P : Passed b) where
         size = length-tab 64 (channelAt b);
         slot = λ j. slot-of j (ltb j 64) refl;
         order-is =
-            P .order-is ∙ union-order b (getD b 832 0)
+            P .order-is ∙ union-order b (getD b 832 0) (P .below) (P .counted)
             ∙ orderOf-cong (weightAt b) (weights (stateOf b .channels)) (rowsAt b) (λ r l. sym (weight-read r (row-lt r l)));
         position = P .position;
         part = part;

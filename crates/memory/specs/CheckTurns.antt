@@ -1,5 +1,5 @@
 -- What a turn of each loop of the check adds. Assumes nothing.
-use Prim.Native.Nat.{ℕ, zero, suc, _+_, _*_, _^_, _≤_, _<_}
+use Prim.Native.Nat.{ℕ, zero, suc, _+_, _≤_, _<_}
 use mathlib.Core.Path.{_≡_, refl, sym, ap, _∙_}
 use mathlib.Core.Bool.{Bool, true, false, _&&_}
 use mathlib.Core.List.{List}
@@ -12,11 +12,10 @@ use lib.Dec.{ltb, eqb}
 use lib.ListN.{length, getD, set, replicate}
 use lib.Seq.{getD-set-same, getD-set-other}
 use borrow.Author.Tests.{eq-eqb, ne-eqb, ltb-true}
-use Rattle.bits.specs.Bit.{bit}
 use Rattle.bits.specs.Slots.{oneIf}
 use Rattle.bits.specs.SlotsLaws.{if-eq}
-use Rattle.memory.specs.Reading.{firstAt}
-use Rattle.memory.specs.Check.{allBelow, weightAt, belowRule, found, union, columnMask}
+use Rattle.memory.specs.Reading.{waitingAt}
+use Rattle.memory.specs.Check.{allBelow, weightAt, belowRule, found, rowWeight, union}
 use Rattle.memory.specs.ByteTests.{both-true, true-both}
 
 -- ---- a test of each number below n
@@ -42,14 +41,9 @@ all-intro (suc n) f h = true-both (all-intro n f (λ k l. h k (omega arith))) (h
 
 -- ---- what a turn of each other loop adds
 
-pub union-turn : (b : List ℕ) (k u w row : ℕ) → u ≡ union b k → row ≡ getD b k 0 → w ≡ weightAt b row → bitOr u w ≡ union b (k + 1)
+pub union-turn : (b : List ℕ) (k u w x : ℕ) → u ≡ union b k → w ≡ weightAt b k → x ≡ rowWeight (waitingAt b k) w → bitOr u x ≡ union b (k + 1)
 unfolding union
-union-turn b k u w row e r g = rw (add-one, e, g, r)
-
-pub column-turn : (b : List ℕ) (c k m x row : ℕ) → m ≡ columnMask b c k → row ≡ getD b k 0 → x ≡ bit c (weightAt b row) * 2 ^ row
-    → bitOr m x ≡ columnMask b c (k + 1)
-unfolding columnMask
-column-turn b c k m x row e r g = rw (add-one, e, g, r)
+union-turn b k u w x e g h = rw (add-one, e, h, g)
 
 pub below-at : (b : List ℕ) (n k : ℕ) → belowRule b n ≡ true → k < n → getD b k 0 < 64
 unfolding belowRule

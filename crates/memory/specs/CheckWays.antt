@@ -6,11 +6,10 @@ use mathlib.Core.List.{List}
 use native.Mathlib.Omega.{arith}
 use lib.Dec.{leb, eqb}
 use lib.ListN.{length, getD}
-use borrow.Author.Tests.{lt-ltb, le-ltb, eq-eqb, ne-eqb, leb-true}
+use borrow.Author.Tests.{lt-ltb, le-ltb, eq-eqb, ne-eqb}
 use Rattle.bits.specs.Bit.{bit}
 use Rattle.memory.specs.Reading.{waitingAt, firstAt}
-use Rattle.memory.specs.Check.{headsRule, deficitAt, sizeAt, clear, countedRule, maskAt, calm, visitedRule, deficitsRule, recordsRule, belowRule, rowsRule, scanRule, checked}
-use Rattle.memory.specs.ByteTests.{both-true}
+use Rattle.memory.specs.Check.{headsRule, deficitAt, sizeAt, maskAt, calm, visitedRule, deficitsRule, recordsRule, rowsRule, scanRule, checked}
 
 -- ---- the ways out of the whole check
 
@@ -34,7 +33,7 @@ module _ (b : List ℕ) where
         unfolding checked
         wrong-rows h = rw (eq-eqb (length b) 7040 len, heads, ← t, records, ← rows, h)
 
-        pub right-rows : rowsRule b n ≡ true → scanRule b n ≡ checked b
+        pub right-rows : rowsRule b n ≡ true → scanRule b ≡ checked b
         unfolding checked
         right-rows h = rw (eq-eqb (length b) 7040 len, heads, ← t, records, ← rows, h)
 
@@ -64,15 +63,3 @@ module _ (b : List ℕ) (x : ℕ) (read : x ≡ getD b 845 0) where
         → (h && (p && q)) ≡ deficitsRule b (getD b 845 0)
     unfolding deficitsRule
     in-slot h p q l e f g = rw (visit-read, lt-ltb v 64 l, e, f, g)
-
--- ---- rows that pass
-
-pub rows-few : (b : List ℕ) (n : ℕ) → rowsRule b n ≡ true → n ≤ 64
-unfolding rowsRule
-rows-few b n e = leb-true n 64 (both-true (leb n 64) (belowRule b n && (clear b n (64 - n) && countedRule b n)) e .0)
-
-pub rows-below : (b : List ℕ) (n : ℕ) → rowsRule b n ≡ true → belowRule b n ≡ true
-unfolding rowsRule
-rows-below b n e =
-    both-true (belowRule b n) (clear b n (64 - n) && countedRule b n)
-    (both-true (leb n 64) (belowRule b n && (clear b n (64 - n) && countedRule b n)) e .1) .0

@@ -13,4 +13,4 @@ use Rattle.memory.specs.SoundChecked.{memory-passed}
 pub check-is-sound : (b : List ℕ) → Bytes b → checked b ≡ soundBytes b
 check-is-sound b bytes =
     same-bool (checked b) (soundBytes b) (λ e. passed-memory b bytes (checked-passed b bytes e))
-    (λ e. passed-checked b bytes (memory-passed b e))
+    (λ e. passed-checked b (memory-passed b e))

@@ -33,10 +33,10 @@ pub mod SearchLaws
 pub mod ByteTests
 pub mod Check
 pub mod CheckTurns
+pub mod MaskSlots
 pub mod NumbersRead
 pub mod RowsRead
 pub mod HeadFacts
-pub mod ColumnMasks
 pub mod CheckFacts
 pub mod CheckWays
 pub mod CheckPassed

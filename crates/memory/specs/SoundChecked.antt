@@ -34,11 +34,10 @@ use Rattle.memory.specs.SoundMemory.{SoundMemory, memory-sound}
 use Rattle.memory.specs.BytesOfState.{OnlyState}
 use Rattle.memory.specs.SoundBytes.{sound-only}
 use Rattle.memory.specs.Lanes.{mask-is}
-use Rattle.memory.specs.Check.{weightAt, deficitAt, sizeAt, maskAt, positionAt, headAt, referenceAt, found, columnMask}
+use Rattle.memory.specs.Check.{weightAt, deficitAt, sizeAt, referenceAt, maskAt, positionAt, headAt, found}
 use Rattle.memory.specs.HeadFacts.{HeadFacts}
-use Rattle.memory.specs.CheckFacts.{Visited, Passed}
-use Rattle.memory.specs.ColumnMasks.{column-mask-has}
-use Rattle.memory.specs.RowsRead.{empty-tab, occurs-rows, union-order, keep-none}
+use Rattle.memory.specs.CheckFacts.{InColumn, Visited, Passed}
+use Rattle.memory.specs.RowsRead.{empty-tab, occurs-rows, row-waits, union-order, keep-none}
 use Rattle.memory.specs.CheckSound.{rows-tab}
 use Rattle.memory.specs.Fitting as fitting
 
@@ -173,9 +172,9 @@ module _ (b : List ℕ) (sound : soundBytes b ≡ true) where
       (ap isEmpty (keep-none (λ r. eqb (bit r (maskAt b)) 1) (rowsAt b)
       (λ r. rw (z, bit-none r) refl)))
 
-  to-visit : (c : ℕ) → bit c (maskAt b) ≡ 1 → bit c (columnMask b (getD b 836 0) (getD b 832 0)) ≡ 1
+  to-visit : (c : ℕ) → c < 64 → bit c (maskAt b) ≡ 1 → InColumn b c
   unfolding stateOf
-  to-visit c o =
+  to-visit c low o =
       let column = getD b 836 0 in
       let w = weights (s .channels) in
       let marked : occurs c (s .scan .toVisit) ≡ 1
@@ -183,8 +182,7 @@ module _ (b : List ℕ) (sound : soundBytes b ≡ true) where
       let kept : 1 ≤ cond (eqb (bit column (w c)) 1) (occurs c (rowsAt b)) 0
       = omega (arith, occurs-part c (S .part), occurs-column w (rowsAt b) column c) in
       let (set, row) = one-kept (eqb (bit column (w c)) 1) (occurs c (rowsAt b)) kept in
-      column-mask-has b column (getD b 832 0) c (rw (occurs-rows b c (getD b 832 0)) at row)
-      (sym (ap (bit column) (weight-read c (row-lt S c row))) ∙ eqb-true (bit column (w c)) 1 set)
+      (row-waits b (getD b 832 0) below counted c row .1, sym (ap (bit column) (weight-read c low)) ∙ eqb-true (bit column (w c)) 1 set)
 
   visited : (v : ℕ) → getD b 845 0 ≡ suc v → Visited b v
   unfolding stateOf channelAt deficitAt recordAt sizeAt maskAt
@@ -221,7 +219,7 @@ module _ (b : List ℕ) (sound : soundBytes b ≡ true) where
         order-is =
             S .order-is
             ∙ orderOf-cong (weights (s .channels)) (weightAt b) (rowsAt b) (λ r l. weight-read r (row-lt S r l))
-            ∙ sym (union-order b (getD b 832 0));
+            ∙ sym (union-order b (getD b 832 0) below counted);
         position = S .position;
         no-column = no-column;
         narrow = column-lt S;

@@ -10,9 +10,11 @@ ghost use mathlib.Core.Path.{_≡_};
 ghost use mathlib.Core.Bool.{true};
 ghost use Prim.Native.Nat.{ℕ, _<_, _≤_};
 ghost use lib.ListN.{length, getD};
+ghost use Rattle.bits.specs.Bit.{withoutBit};
+ghost use Rattle.bits.specs.Trailing.{trailing};
 ghost use Rattle.memory.specs.Reading.{firstAt};
 ghost use Rattle.memory.specs.Memory.{soundBytes};
-ghost use Rattle.memory.specs.Check.{found, onceRule, belowRule, countedRule, rowsRule, weightAt, union, orderRule, columnMask, toVisitRule, visitedRule, deficitsRule, scanRule};
+ghost use Rattle.memory.specs.Check.{found, onceRule, belowRule, countedRule, rowsRule, weightAt, rowWeight, union, orderRule, rowOfRule, inColumnRule, toVisitRule, visitedRule, deficitsRule, scanRule};
 
 // Whether the memory has the right length, is a sound state's, and is 0 wherever it stands for nothing.
 pub fn check(state: &[u8]) -> bool
@@ -32,7 +34,7 @@ pub fn check(state: &[u8]) -> bool
     if !rows(state, count) {
         return false;
     }
-    scan(state, count)
+    scan(state)
 }
 
 // Whether the first n rows are slots.
@@ -108,52 +110,84 @@ fn weight_of(state: &[u8], slot: usize) -> u16
     low_first::read_u16(state, layout::WEIGHT + slot, 64)
 }
 
-// The union of the weights of the first n rows: its order is the greatest of theirs.
-fn union_of(state: &[u8], n: usize) -> u16
-    requires { ⌜ (length (now state) ≡ 7040) × (n ≤ 64) × (belowRule (now state) n ≡ true) ⌝ }
-    ensures { λ r. ⌜ r ≡ union (now (state .entry)) n ⌝ }
+// The weight of a slot that is a row, and 0 of any other.
+fn row_weight(waiting: u8, weight: u16) -> u16
+    ensures { λ r. ⌜ r ≡ rowWeight waiting weight ⌝ }
+{
+    if waiting == 0 {
+        return 0;
+    }
+    weight
+}
+
+// The union of the weights of the slots that are rows: its order is the greatest of theirs.
+fn union_of(state: &[u8]) -> u16
+    requires { ⌜ length (now state) ≡ 7040 ⌝ }
+    ensures { λ r. ⌜ r ≡ union (now (state .entry)) 64 ⌝ }
 {
     let mut all: u16 = 0;
-    let mut k = 0;
-    while k < n {
-        let row = lines::wide(state[k]);
-        all = all | weight_of(state, row);
-        k += 1;
+    let mut s = 0;
+    while s < layout::SLOTS {
+        all = all | row_weight(state[layout::WAITING + s], weight_of(state, s));
+        s += 1;
     }
     all
 }
 
 // Whether the stored order is the rows', and the position one of that order's: a position below 2^k takes at most k bits.
-fn order_ok(state: &[u8], n: usize) -> bool
-    requires { ⌜ (length (now state) ≡ 7040) × (n ≤ 64) × (belowRule (now state) n ≡ true) ⌝ }
-    ensures { λ r. ⌜ r ≡ orderRule (now (state .entry)) n ⌝ }
+fn order_ok(state: &[u8]) -> bool
+    requires { ⌜ length (now state) ≡ 7040 ⌝ }
+    ensures { λ r. ⌜ r ≡ orderRule (now (state .entry)) ⌝ }
 {
     let order = lines::wide(state[layout::ORDER]) as u32;
     let position = low_first::read_u16(state, layout::POSITION, 1);
-    let all = union_of(state, n);
+    let all = union_of(state);
     (order == bits::order_of(all as u32)) & (bits::order_of(position as u32) <= order)
 }
 
-// The mask of those of the first n rows whose weight has the column's bit.
-fn column_mask(state: &[u8], column: u32, n: usize) -> u64
-    requires { ⌜ (length (now state) ≡ 7040) × (n ≤ 64) × (column < 12) × (belowRule (now state) n ≡ true) ⌝ }
-    ensures { λ r. ⌜ r ≡ columnMask (now (state .entry)) column n ⌝ }
+// Whether a slot is a row of the column: it has records, and its weight the column's bit.
+fn is_row_of(column: u32, waiting: u8, weight: u16) -> bool
+    requires { ⌜ column < 12 ⌝ }
+    ensures { λ r. ⌜ r ≡ rowOfRule column waiting weight ⌝ }
 {
-    let mut mask: u64 = 0;
-    let mut k = 0;
-    while k < n {
-        let row = lines::wide(state[k]);
-        let weight = weight_of(state, row) as u64;
-        mask = mask | (((weight >> column) % 2) << (row as u32));
-        k += 1;
+    (waiting != 0) & bits::in_mask(weight as u64, column)
+}
+
+// The lowest slot of a mask that has one.
+fn lowest_in(mask: u64) -> usize
+    requires { ⌜ 0 < mask ⌝ }
+    ensures { λ r. ⌜ (r ≡ trailing mask) × (r < 64) ⌝ }
+{
+    u64::trailing_zeros(mask) as usize
+}
+
+// The mask without it.
+fn without_lowest(mask: u64) -> u64
+    requires { ⌜ 0 < mask ⌝ }
+    ensures { λ r. ⌜ r ≡ withoutBit (trailing mask) mask ⌝ }
+{
+    mask & (mask - 1)
+}
+
+// Whether every slot in the mask is a row of the column. A turn for each slot in the mask: most masks have few.
+fn in_column(state: &[u8], mask: u64, column: u32) -> bool
+    requires { ⌜ (length (now state) ≡ 7040) × (column < 12) ⌝ }
+    ensures { λ r. ⌜ r ≡ inColumnRule (now (state .entry)) mask column ⌝ }
+{
+    let mut ok = true;
+    let mut left = mask;
+    while left != 0 {
+        let s = lowest_in(left);
+        ok = ok & is_row_of(column, state[layout::WAITING + s], weight_of(state, s));
+        left = without_lowest(left);
     }
-    mask
+    ok
 }
 
 // Whether the slots to visit are rows of the noted column, which is 0 when there are none.
-fn to_visit_ok(state: &[u8], n: usize) -> bool
-    requires { ⌜ (length (now state) ≡ 7040) × (n ≤ 64) × (belowRule (now state) n ≡ true) ⌝ }
-    ensures { λ r. ⌜ r ≡ toVisitRule (now (state .entry)) n ⌝ }
+fn to_visit_ok(state: &[u8]) -> bool
+    requires { ⌜ length (now state) ≡ 7040 ⌝ }
+    ensures { λ r. ⌜ r ≡ toVisitRule (now (state .entry)) ⌝ }
 {
     let mask = low_first::read_u64(state, layout::MASK, 1);
     let column = lines::wide(state[layout::COLUMN]);
@@ -163,8 +197,7 @@ fn to_visit_ok(state: &[u8], n: usize) -> bool
     if 12 <= column {
         return false;
     }
-    let held = column_mask(state, column as u32, n);
-    (mask | held) == held
+    in_column(state, mask, column as u32)
 }
 
 // Whether the slot in visit has what a visit takes.
@@ -199,13 +232,13 @@ fn deficits(state: &[u8]) -> bool
     held & (before & behind)
 }
 
-// Whether order, scan point and deficits go with the n rows, and the bytes that stand for nothing are 0.
-fn scan(state: &[u8], n: usize) -> bool
-    requires { ⌜ (length (now state) ≡ 7040) × (n ≤ 64) × (belowRule (now state) n ≡ true) × (firstAt (now state) 64 ≤ 1024) ⌝ }
-    ensures { λ r. ⌜ r ≡ scanRule (now (state .entry)) n ⌝ }
+// Whether order, scan point and deficits go with the slots, and the bytes that stand for nothing are 0.
+fn scan(state: &[u8]) -> bool
+    requires { ⌜ (length (now state) ≡ 7040) × (firstAt (now state) 64 ≤ 1024) ⌝ }
+    ensures { λ r. ⌜ r ≡ scanRule (now (state .entry)) ⌝ }
 {
-    let a = order_ok(state, n);
-    let b = to_visit_ok(state, n);
+    let a = order_ok(state);
+    let b = to_visit_ok(state);
     let c = deficits(state);
     let d = lines::is_clear(state, layout::SPARE, 50);
     a & (b & (c & d))

@@ -9,7 +9,7 @@ use Rattle.octets.specs.Number.{Bytes}
 use Rattle.memory.specs.Reading.{firstAt}
 use Rattle.memory.specs.Check.{headsRule, recordsRule, rowsRule}
 use Rattle.memory.specs.HeadFacts.{heads-total}
-use Rattle.memory.specs.CheckWays.{rows-few, rows-below, wrong-length, wrong-heads, wrong-records, wrong-rows, right-rows}
+use Rattle.memory.specs.CheckWays.{wrong-length, wrong-heads, wrong-records, wrong-rows, right-rows}
 use Rattle.memory.specs.Checked.{check-is-sound}
 use Rattle.memory.proofs.check.check.Statement.{statement}
 use Rattle.memory.proofs.check.check.Tie as tie
@@ -81,7 +81,7 @@ returns-4 c =
 scan-requires : tie.Need-scan-requires
 scan-requires c κs =
     let passed = c .before .before .before .before .before .before .before in
-    (search needs, rows-few _ _ (rows c), rows-below _ _ (rows c), heads-total _ (heads passed))
+    (search needs, heads-total _ (heads passed))
 
 returns-5 : tie.Need-returns-5
 returns-5 c =

@@ -23,15 +23,15 @@ returns-2 : tie.Need-returns-2
 unfolding maskAt toVisitRule
 returns-2 c = rw (sym (c .before .before .before .before .read-u64 .ensures), sym (c .before .before .wide .ensures .0), ne-eqb _ 0 (c .before .if1 .left), le-ltb _ 12 (c .if2 .taken))
 
-cast-column-mask : tie.Need-cast-column-mask
-cast-column-mask c = search needs
+cast-in-column : tie.Need-cast-in-column
+cast-in-column c = search needs
 
-column-mask-requires : tie.Need-column-mask-requires
-column-mask-requires c κs = search needs
+in-column-requires : tie.Need-in-column-requires
+in-column-requires c κs = search needs
 
 returns-3 : tie.Need-returns-3
 unfolding maskAt toVisitRule
-returns-3 c = rw (sym (c .before .before .before .before .before .read-u64 .ensures), sym (c .before .before .before .wide .ensures .0), ne-eqb _ 0 (c .before .before .if1 .left), lt-ltb _ 12 (c .before .if2 .left), c .column-mask .ensures)
+returns-3 c = rw (sym (c .before .before .before .before .before .read-u64 .ensures), sym (c .before .before .before .wide .ensures .0), ne-eqb _ 0 (c .before .before .if1 .left), lt-ltb _ 12 (c .before .if2 .left), c .in-column .ensures)
 
 pub to-visit-ok-spec : {M : Type 1} → statement M
 to-visit-ok-spec =
@@ -42,6 +42,6 @@ to-visit-ok-spec =
     wide-requires
     returns
     returns-2
-    cast-column-mask
-    column-mask-requires
+    cast-in-column
+    in-column-requires
     returns-3)

@@ -1,0 +1,19 @@
+-- The trailing zeros of 64 bits are those of the mask, which is not empty. Assumes nothing.
+use mathlib.Core.Path.{sym}
+use native.Mathlib.Omega.{arith}
+use lib.Count.{trailing-le}
+use Rattle.bits.specs.TrailingLaws.{trailing-count, trailing-lt}
+use Rattle.memory.proofs.check.lowest_in.Statement.{statement}
+use Rattle.memory.proofs.check.lowest_in.Tie as tie
+
+cast-result : tie.Need-cast-result
+cast-result c = omega (arith, trailing-le 64 (c .args .mask))
+
+returns : tie.Need-returns
+returns c =
+    let mask = c .args .mask in
+    let e = sym (trailing-count 64 mask (c .pre) (c .fits .mask .fits)) in
+    (e, rw e (trailing-lt 64 mask (c .pre) (c .fits .mask .fits)))
+
+pub lowest-in-spec : {M : Type 1} → statement M
+lowest-in-spec = tie.close (tie.spec cast-result returns)
