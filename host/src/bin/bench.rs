@@ -2,6 +2,7 @@
 //!
 //! All columns are measured in turn in the same run and are medians over many batches, so that their ratios mean something on any machine:
 //! - call: Next and Put in pairs, so that the fill stays the same, per call;
+//! - next: Next alone, four in a row (what they sent is put back without being timed);
 //! - check: a refused call (Ask of slot 64), which is the check of the memory alone;
 //! - read: the bytes of the memory taken together by `or`, once;
 //! - plain check: the memory checked record by record, straight on the bytes;
@@ -12,6 +13,7 @@ use std::fmt::Write;
 use std::hint::black_box;
 use std::time::Instant;
 
+use host::answers::Sent;
 use host::check::record_by_record;
 use host::driver::{Linked, Memory};
 use host::engine::Engine;
@@ -22,11 +24,11 @@ const BATCHES: usize = 301;
 /// Repetitions in a batch.
 const TIMES: usize = 200;
 const FILLS: [(u32, u32); 5] = [(0, 0), (4, 8), (16, 8), (64, 8), (64, 16)];
-const NAMES: [&str; 5] = ["call", "check", "read", "plain check", "plain call"];
-const COLOURS: [&str; 5] = ["#1f5fa8", "#7fb2e5", "#999999", "#e5b27f", "#a8551f"];
+const NAMES: [&str; 6] = ["call", "next", "check", "read", "plain check", "plain call"];
+const COLOURS: [&str; 6] = ["#0072b2", "#56b4e9", "#009e73", "#999999", "#e69f00", "#d55e00"];
 
 /// Nanoseconds, by the names above; none where there is nothing to send.
-type Line = [Option<f64>; 5];
+type Line = [Option<f64>; 6];
 
 fn main() {
     let lines: Vec<Line> = FILLS.iter().map(|&(channels, records)| measured(channels, records)).collect();
@@ -57,15 +59,16 @@ fn measured(channels: u32, records: u32) -> Line {
     let bytes = layout::to_bytes(&scheduler);
     let mut memory = Memory::from_bytes(bytes.clone().try_into().expect("the layout's length"));
     let mut lent = bytes.clone();
-    let mut times: [Vec<f64>; 5] = Default::default();
+    let mut times: [Vec<f64>; 6] = Default::default();
     for _ in 0..BATCHES {
         if channels > 0 {
             times[0].push(batch(2, || linked_pair(&mut memory)));
-            times[4].push(batch(2, || plain_pair(&mut scheduler, &bytes)));
+            times[1].push(next_alone(&mut memory));
+            times[5].push(batch(2, || plain_pair(&mut scheduler, &bytes)));
         }
-        times[1].push(batch(1, || refused(&mut lent)));
-        times[2].push(batch(1, || read(&bytes)));
-        times[3].push(batch(1, || assert!(record_by_record(black_box(&bytes)))));
+        times[2].push(batch(1, || refused(&mut lent)));
+        times[3].push(batch(1, || read(&bytes)));
+        times[4].push(batch(1, || assert!(record_by_record(black_box(&bytes)))));
     }
     times.map(median)
 }
@@ -77,6 +80,20 @@ fn batch(calls: usize, mut repetition: impl FnMut()) -> f64 {
         repetition();
     }
     begin.elapsed().as_nanos() as f64 / (TIMES * calls) as f64
+}
+
+/// Nanoseconds of a Next.
+fn next_alone(memory: &mut Memory) -> f64 {
+    let mut nanoseconds = 0;
+    for _ in 0..TIMES / 4 {
+        let begin = Instant::now();
+        let sent: [Sent; 4] = std::array::from_fn(|_| memory.next().expect("a record waits"));
+        nanoseconds += begin.elapsed().as_nanos();
+        for record in sent {
+            memory.put(record.slot, record.ticket, record.length, record.reference).expect("there is room");
+        }
+    }
+    nanoseconds as f64 / TIMES as f64
 }
 
 fn median(mut times: Vec<f64>) -> Option<f64> {
@@ -110,13 +127,14 @@ fn table(lines: &[Line]) -> String {
     for name in NAMES {
         let _ = write!(text, " {name} |");
     }
-    text += " call / read | check / read | check / plain check | call / plain call |\n|---|---|---|---|---|---|---|---|---|---|\n";
+    text += " call / read | next / read | check / read | check / plain check | call / plain call |\n";
+    text += &("|---".repeat(12) + "|\n");
     for (&(channels, records), line) in FILLS.iter().zip(lines) {
         let _ = write!(text, "| {channels} x {records} |");
         for time in line {
             let _ = write!(text, " {} |", shown(*time, 0));
         }
-        for (over, under) in [(0, 2), (1, 2), (1, 3), (0, 4)] {
+        for (over, under) in [(0, 3), (1, 3), (2, 3), (2, 4), (0, 5)] {
             let ratio = line[over].zip(line[under]).map(|(over, under)| over / under);
             let _ = write!(text, " {} |", shown(ratio, 2));
         }
@@ -132,7 +150,7 @@ fn shown(number: Option<f64>, places: usize) -> String {
 /// Groups of bars, one group a fill, in nanoseconds from 0.
 fn plot(lines: &[Line]) -> String {
     let most = lines.iter().flatten().flatten().fold(1.0, |most: f64, &time| most.max(time));
-    let (group, bar, height) = (150, 26, 300.0);
+    let (group, bar, height) = (174, 26, 300.0);
     let width = 70 + group * lines.len();
     let mut svg = format!(
         "<svg xmlns=\"http://www.w3.org/2000/svg\" width=\"{width}\" height=\"420\" font-family=\"sans-serif\" font-size=\"12\">\n\
