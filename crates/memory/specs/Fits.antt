@@ -1,56 +1,46 @@
--- Which fields fit, and what a table keeps when one of its fields is changed. Assumes nothing.
-use Prim.Native.Nat.{ℕ, zero, suc, _^_, _≤_, _<_}
-use mathlib.Core.List.{List, [], _∷_, _++_}
-use native.Mathlib.Omega.{arith}
-use native.Mathlib.Nat.{one-le-pow}
-use lib.ListN.{length, set, length-append, length-set}
-use Rattle.memory.specs.Fields.{Field, field, nth, holding, Below, Fitting, Fit, all-fit, _beside_, insertAt, removeAt, tab}
-use Rattle.memory.specs.Tables.{length-insertAt, insertAt-last, length-removeAt, length-tab, below-set, below-insertAt, below-removeAt, below-tab}
+-- What a state needs for its numbers to have room in its memory. A sound state has it, and so has one in the middle of Next. Assumes nothing.
+use Prim.Native.Nat.{ℕ, _^_, _≤_, _<_}
+use mathlib.Core.Path.{_≡_}
+use mathlib.Core.List.{List, [], _∷_}
+use lib.ListN.{length}
+use Rattle.bits.specs.Slots.{occurs}
+use Rattle.bits.specs.SlotsLaws.{Part}
+use Rattle.rules.specs.Numbers.{slots, room}
+use Rattle.rules.specs.State.{Record, Channel, State, at}
+use Rattle.memory.specs.Layout.{visitNumber}
 
--- a field that fits: in general, with a number in each lane, and of one number
-pub fitting : (n w : ℕ) (vs : List ℕ) → length vs ≤ n → Below (256 ^ w) vs → Fitting (field n w vs)
-fitting n w vs few small = record { few = few; small = small }
+-- no slot occurs twice; none from n on occurs
+abbrev pub Once : List ℕ → Type 0
+Once xs = (i : ℕ) → occurs i xs ≤ 1
 
-pub fitting-tab : (n w : ℕ) (f : ℕ → ℕ) → ((i : ℕ) → i < n → f i < 256 ^ w) → Fitting (field n w (tab n f))
-fitting-tab n w f h =
-    record { few = omega (arith, length-tab n f); small = below-tab (256 ^ w) n f (one-le-pow w 256 (omega arith)) h }
+abbrev pub NoneFrom : ℕ → List ℕ → Type 0
+NoneFrom n xs = (i : ℕ) → n ≤ i → occurs i xs ≡ 0
 
-pub fitting-one : (w v : ℕ) → v < 256 ^ w → Fitting (field 1 w (v ∷ []))
-unfolding tab
-fitting-one w v h = fitting-tab 1 w (λ i. v) (λ i l. h)
+-- what is true of every record of a list
+pub data Each (P : Record → Type 0) : List Record → Type 0 where
+  each-nil : Each P []
+  each-cons : {r : Record} {rs : List Record} → P r → Each P rs → Each P (r ∷ rs)
 
-pub fit-at : (fs : List Field) (k : ℕ) → Fit fs → Fitting (nth fs k)
-fit-at [] k all-fit = record { few = omega arith; small = λ i. omega arith }
-fit-at (f ∷ fs) zero (a beside r) = a
-fit-at (f ∷ fs) (suc k) (a beside r) = fit-at fs k r
+pub record RecordFits (r : Record) : Type 0 where
+  pub size-fits : r .size < 256 ^ 2
+  pub reference-fits : r .reference < 256 ^ 4
 
--- ---- a table with one field changed
+pub record SlotFits (c : Channel) : Type 0 where
+  pub ticket-fits : c .ticket < 256 ^ 4
+  pub weight-fits : c .weight < 256 ^ 2
+  pub deficit-fits : c .deficit < 256 ^ 2
+  pub serial-fits : c .serial < 256 ^ 2
+  pub few : length (c .waiting) ≤ room
+  pub records : Each RecordFits (c .waiting)
 
-pub fit-set : (fs : List Field) (k : ℕ) (f : Field) → Fit fs → Fitting f → Fit (set fs k f)
-fit-set [] k f fit new = all-fit
-fit-set (g ∷ fs) zero f (a beside r) new = new beside r
-fit-set (g ∷ fs) (suc k) f (a beside r) new = a beside fit-set fs k f r new
-
--- a field whose numbers are changed still fits
-module _ (f : Field) (fits : Fitting f) where
-  pub fitting-set : (i v : ℕ) → v < 256 ^ f .width → Fitting (holding f (set (f .numbers) i v))
-  fitting-set i v l =
-      record { few = rw (length-set (f .numbers) i v) (fits .few); small = below-set (256 ^ f .width) (f .numbers) i v (fits .small) l }
-
-  pub fitting-append : (v : ℕ) → length (f .numbers) < f .lanes → v < 256 ^ f .width → Fitting (holding f (f .numbers ++ v ∷ []))
-  fitting-append v free l =
-      record {
-        few = omega (arith, length-append (f .numbers) (v ∷ []));
-        small = rw (← insertAt-last v (f .numbers)) (below-insertAt (256 ^ f .width) (length (f .numbers)) v (f .numbers) (fits .small) l);
-      }
-
-  pub fitting-insert : (i v : ℕ) → length (f .numbers) < f .lanes → v < 256 ^ f .width → Fitting (holding f (insertAt i v (f .numbers)))
-  fitting-insert i v free l =
-      record { few = omega (arith, length-insertAt i v (f .numbers)); small = below-insertAt (256 ^ f .width) i v (f .numbers) (fits .small) l }
-
-  pub fitting-remove : (i : ℕ) → i < length (f .numbers) → Fitting (holding f (removeAt i (f .numbers)))
-  fitting-remove i h =
-      record {
-        few = omega (arith, length-removeAt i (f .numbers) h, fits .few);
-        small = below-removeAt (256 ^ f .width) i (f .numbers) (fits .small);
-      }
+-- (a slot past the last reads as blank, which fits)
+pub record Fits (s : State) : Type 0 where
+  pub size : length (s .channels) ≡ slots
+  pub slot : (i : ℕ) → SlotFits (at (s .channels) i)
+  pub once : Once (s .rows)
+  pub below : NoneFrom slots (s .rows)
+  pub part : Part (s .scan .toVisit) (s .rows)
+  pub order-fits : s .order < 256
+  pub position-fits : s .scan .position < 256 ^ 2
+  pub column-fits : s .scan .column < 256
+  pub visit-fits : visitNumber (s .scan .visit) < 256

@@ -1,15 +1,15 @@
 -- What one call does to one slot: nothing, or one of five changes of its channel. What the call takes, sends or gives there follows from the change
 -- alone, so the promises on a slot's tickets go by these six cases. Assumes nothing.
-use Prim.Native.Nat.{ℕ, _+_, _<_}
+use Prim.Native.Nat.{ℕ, _+_}
 use mathlib.Core.Path.{_≡_, refl, sym, ap, _∙_}
 use mathlib.Core.Bool.{Bool, true, false, not, cond, false≢true}
 use mathlib.Core.List.{List, [], _∷_}
 use lib.Dec.{ltb, eqb}
-use lib.ListN.{length, replicate, getD-replicate, List·getD-eq-default}
+use lib.ListN.{replicate, getD-replicate, List·getD-eq-default}
 use borrow.Author.Tests.{ltb-true, ltb-false, eq-eqb, ne-eqb, not-true}
 use Rattle.bits.specs.SlotsLaws.{if-eq}
 use Rattle.spread.specs.Answer.{refused, given}
-use Rattle.rules.specs.Numbers.{slots, lastTicket, room}
+use Rattle.rules.specs.Numbers.{slots, lastTicket}
 use Rattle.rules.specs.State.{Record, Kind, free, opened, closing, Channel, State, blank, fresh, at, isFree}
 use Rattle.bits.specs.Tests.{isEmpty, allOf}
 use Rattle.rules.specs.Reply.{Done, Reply, after, freed}

@@ -1,15 +1,14 @@
 -- The line at a place: the bytes up to its end, and the lines of a text one after the other. Assumes nothing.
 use mathlib.Core.Path.{_≡_, refl, sym, ap, _∙_}
 use mathlib.Core.Bool.{Bool, true, false}
-use mathlib.Core.List.{List, [], _∷_, map}
+use mathlib.Core.List.{List, [], _∷_}
 use Prim.Native.Nat.{ℕ, suc, zero-le, suc-le-suc, _+_, _-_, min, _≤_, _<_}
 use native.Mathlib.Numerals.{add-one}
 use native.Mathlib.Omega.{arith}
 use lib.Dec.{eqb, leb}
-use lib.ListN.{length, getD, take, drop, length-drop, drop-of-length-le}
+use lib.ListN.{length, getD, take, drop, drop-of-length-le}
 use lib.Seq.{drop-cons, drop-drop}
 use borrow.Author.Tests.{eq-eqb, ne-eqb, leb-true, leb-false}
-use Rattle.text.specs.Commands.{commandOf, commandsOf}
 use Rattle.text.specs.Lines.{lineOf, afterLine, onto, linesOf, lineAt, lineEnd, lineAfter}
 
 -- ---- By the byte at the front.
@@ -90,9 +89,6 @@ drop-min k s = go (leb k (length s)) refl
 -- ---- The line at a place.
 
 module _ (s : List ℕ) (at : ℕ) where
-  pub line-within : at ≤ length s → (at ≤ lineEnd s at) × (lineEnd s at ≤ length s)
-  line-within h = (omega arith, omega (arith, lineOf-length (drop at s), length-drop at s))
-
   -- the bytes up to the end
   pub line-bytes : take (lineEnd s at - at) (drop at s) ≡ lineAt s at
   line-bytes =
@@ -123,10 +119,6 @@ module _ (s : List ℕ) (at : ℕ) where
 
   pub lines-after : at < length s → linesOf (drop at s) ≡ lineAt s at ∷ linesOf (drop (lineAfter s at) s)
   lines-after h = lines-at h ∙ ap (λ (t : List ℕ). lineAt s at ∷ linesOf t) (drop-min (lineEnd s at + 1) s)
-
-  -- the same of what the lines ask for
-  pub commands-after : at < length s → commandsOf (drop at s) ≡ commandOf (lineAt s at) ∷ commandsOf (drop (lineAfter s at) s)
-  commands-after h = ap (map commandOf) (lines-after h)
 
   -- ---- The end of the line, by what stands at the place.
   pub end-past : length s ≤ at → lineEnd s at ≡ at

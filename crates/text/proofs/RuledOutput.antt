@@ -21,8 +21,8 @@ use Rattle.rules.proofs.Facts.{Sound}
 use Rattle.rules.proofs.Kept.{open-kept, put-kept, close-kept, next-kept, fresh-sound}
 use Rattle.memory.specs.Layout.{bytesOf}
 use Rattle.memory.specs.Memory.{replied, on}
-use Rattle.memory.specs.OnLaws.{on-sound, on-after}
-use Rattle.memory.specs.Fresh.{fresh-zeros}
+use Rattle.memory.proofs.OnLaws.{on-sound, on-after}
+use Rattle.memory.proofs.Fresh.{fresh-zeros}
 use Rattle.text.specs.Lines.{linesOf}
 use Rattle.text.specs.Digits.{digitsBy, isDigit, digitsOff, numberOff, spacedOff}
 use Rattle.text.specs.Commands.{commandOf}

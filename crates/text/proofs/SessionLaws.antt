@@ -6,7 +6,6 @@ use native.Mathlib.Nat.{le-refl, lt-of-not-le}
 use native.Mathlib.Omega.{arith}
 use lib.ListN.{length, take, drop}
 use Rattle.text.specs.Lines.{linesOf, lineAt, lineAfter}
-use Rattle.text.specs.Writing.{written}
 use Rattle.text.specs.Answers.{lineAnswer, leftBy, output, widest, Prints, Session}
 use Rattle.text.proofs.LineLaws.{lines-after, after-on, after-within}
 use Rattle.text.proofs.WritingLaws.{take-written, length-written}

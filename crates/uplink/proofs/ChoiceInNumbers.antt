@@ -28,14 +28,14 @@ use Rattle.rules.proofs.Rows.{order-least, order-most}
 use Rattle.rules.proofs.Steps.{next-position, term-position, term-kept}
 use Rattle.memory.specs.declared.point.Scan.{Scan}
 use Rattle.memory.specs.Layout.{visitNumber}
-use Rattle.memory.specs.Once.{once-part}
+use Rattle.memory.proofs.Once.{once-part}
 use Rattle.memory.specs.Point.{inNumbers}
 use Rattle.memory.specs.Reading.{stateOf}
 use Rattle.memory.specs.Search.{RowsWithin, inMask, firstOf}
-use Rattle.memory.specs.SearchLaws.{rows-within}
-use Rattle.memory.specs.Masks.{first-in-mask, mask-rest, mask-empty, mask-none, noted-mask}
-use Rattle.memory.specs.Fitting.{Fits}
-use Rattle.memory.specs.SoundFits.{sound-fits}
+use Rattle.memory.proofs.SearchLaws.{rows-within}
+use Rattle.memory.proofs.Masks.{first-in-mask, mask-rest, mask-empty, mask-none, noted-mask}
+use Rattle.memory.specs.Fits.{Fits}
+use Rattle.memory.proofs.SoundFits.{sound-fits}
 use Rattle.memory.specs.SoundMemory.{SoundMemory}
 use Rattle.uplink.specs.Step.{afterStep}
 use Rattle.uplink.specs.Choice.{chosenOf, inChosen, choiceTold, termIn, Visits}

@@ -9,10 +9,9 @@ use Rattle.memory.specs.declared.heads.Head.{Head}
 use Rattle.memory.specs.Layout.{bytesOf}
 use Rattle.memory.specs.Reading.{kindOf}
 use Rattle.memory.specs.Edits.{withHead}
-use Rattle.memory.specs.RunLaws.{each-nil}
-use Rattle.memory.specs.Fitting.{SlotFits}
-use Rattle.memory.specs.RoundTrip.{kind-back}
-use Rattle.memory.specs.HeadEdits.{HeadOf}
+use Rattle.memory.specs.Fits.{each-nil, SlotFits}
+use Rattle.memory.proofs.RoundTrip.{kind-back}
+use Rattle.memory.specs.Head.{HeadOf}
 use Rattle.uplink.specs.Settle.{inHead}
 
 pub kind-le : (k : Kind) → kindNumber k ≤ 2

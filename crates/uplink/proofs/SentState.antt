@@ -27,16 +27,18 @@ use Rattle.memory.specs.declared.point.Scan.{Scan}
 use Rattle.memory.specs.Layout.{bytesOf, memoryLength}
 use Rattle.memory.specs.Memory.{replied}
 use Rattle.memory.specs.Reading.{waitingAt, firstAt, recordAt, stateOf}
-use Rattle.memory.specs.RunLaws.{noRecord}
-use Rattle.memory.specs.Fitting.{SlotFits, Fits, fits-scan}
-use Rattle.memory.specs.Lanes.{waiting-is}
-use Rattle.memory.specs.SoundFits.{sound-fits, granted-fits}
+use Rattle.memory.proofs.RunLaws.{noRecord}
+use Rattle.memory.specs.Fits.{SlotFits, Fits}
+use Rattle.memory.proofs.Fitting.{fits-scan}
+use Rattle.memory.proofs.Lanes.{waiting-is}
+use Rattle.memory.proofs.SoundFits.{sound-fits, granted-fits}
 use Rattle.memory.specs.SoundMemory.{SoundMemory}
 use Rattle.memory.specs.Point.{inNumbers, scanAt}
-use Rattle.memory.specs.PointEdits.{scan-is}
-use Rattle.memory.specs.SearchLaws.{rows-length}
-use Rattle.memory.specs.HeadEdits.{HeadAt, head-of}
-use Rattle.memory.specs.RecordEdits.{fits-taken}
+use Rattle.memory.proofs.PointEdits.{scan-is}
+use Rattle.memory.proofs.SearchLaws.{rows-length}
+use Rattle.memory.specs.Head.{HeadAt}
+use Rattle.memory.proofs.HeadEdits.{head-of}
+use Rattle.memory.proofs.RecordEdits.{fits-taken}
 use Rattle.uplink.specs.Told.{leaving}
 use Rattle.uplink.specs.Choice.{chosenOf, inChosen, choiceTold, Chose}
 use Rattle.uplink.specs.Settle.{inHead, paidHead, Settles}

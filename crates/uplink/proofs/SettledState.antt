@@ -19,16 +19,16 @@ use Rattle.memory.specs.declared.point.Scan.{Scan}
 use Rattle.memory.specs.Layout.{visitNumber, bytesOf, memoryLength}
 use Rattle.memory.specs.Reading.{waitingAt, firstAt, recordAt, rowsAt, stateOf}
 use Rattle.memory.specs.Edits.{queueNow, rowGone}
-use Rattle.memory.specs.RunLaws.{noRecord, before, getD-run, run-within}
-use Rattle.memory.specs.Fitting.{Fits, run-few, length-bytes}
-use Rattle.memory.specs.Lanes.{waiting-is}
-use Rattle.memory.specs.RoundTrip.{first-is, record-is, state-of-bytes}
+use Rattle.memory.proofs.RunLaws.{noRecord, before, getD-run, run-within}
+use Rattle.memory.specs.Fits.{Fits}
+use Rattle.memory.proofs.Fitting.{run-few, length-bytes, fits-channel}
+use Rattle.memory.proofs.Lanes.{waiting-is}
+use Rattle.memory.proofs.RoundTrip.{first-is, record-is, state-of-bytes}
 use Rattle.memory.specs.Search.{RowsWithin}
-use Rattle.memory.specs.SearchLaws.{rows-within}
+use Rattle.memory.proofs.SearchLaws.{rows-within}
 use Rattle.memory.specs.Point.{inNumbers}
-use Rattle.memory.specs.SlotEdits.{fits-channel}
-use Rattle.memory.specs.RecordEdits.{fits-taken, some-left}
-use Rattle.memory.specs.RowEdits.{fits-gone, row-to-leave}
+use Rattle.memory.proofs.RecordEdits.{fits-taken, some-left}
+use Rattle.memory.proofs.RowEdits.{fits-gone, row-to-leave}
 use Rattle.uplink.specs.Settle.{inHead, Settles, Paid}
 use Rattle.uplink.proofs.HeadInNumbers.{emptied-fits}
 
@@ -66,7 +66,7 @@ module _ {b : List ℕ} {i : ℕ} {head : Head} {scan : Scan} (z : Paid b i head
   rowless = withChannel (rowGone (z .state) i) i (emptied (z .channel .kind) (z .channel))
 
   pub rowless-fits : Fits rowless
-  rowless-fits = fits-channel i (emptied (z .channel .kind) (z .channel)) (fits-gone i (z .fits) (z .apart)) (z .slot-lt) (emptied-fits (z .channel .kind) (z .channel-fits))
+  rowless-fits = fits-channel (fits-gone i (z .fits) (z .apart)) i (emptied (z .channel .kind) (z .channel)) (z .slot-lt) (emptied-fits (z .channel .kind) (z .channel-fits))
 
   pub leaves : (length b ≡ memoryLength) × (i < 64) × (getD b 832 0 ≤ 64) × (1 ≤ occurs i (rowsAt b))
   leaves =

@@ -26,7 +26,7 @@ ghost use Rattle.rules.specs.Next as rules;
 ghost use Rattle.memory.specs.Layout.{visitNumber, bytesOf};
 ghost use Rattle.memory.specs.Reading.{firstAt, recordAt, rowsAt, stateOf};
 ghost use Rattle.memory.specs.Edits.{rowGone};
-ghost use Rattle.memory.specs.Fitting.{Fits};
+ghost use Rattle.memory.specs.Fits.{Fits};
 ghost use Rattle.memory.specs.Search.{RowsWithin};
 ghost use Rattle.memory.specs.Point.{inNumbers};
 ghost use Rattle.uplink.specs.Settle.{inHead, Settles, Paid, orderAgain};

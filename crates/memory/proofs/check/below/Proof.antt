@@ -6,7 +6,7 @@ use lib.Dec.{ltb}
 use lib.ListN.{getD}
 use borrow.Author.Needs.{needs}
 use Rattle.memory.specs.Check.{allBelow, belowRule}
-use Rattle.memory.specs.CheckTurns.{all-turn, all-end}
+use Rattle.memory.proofs.CheckTurns.{all-turn, all-end}
 use Rattle.memory.proofs.check.below.Statement.{statement}
 use Rattle.memory.proofs.check.below.Tie as tie
 

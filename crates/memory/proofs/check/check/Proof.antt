@@ -8,9 +8,9 @@ use lib.ListN.{length}
 use Rattle.octets.specs.Number.{Bytes}
 use Rattle.memory.specs.Reading.{firstAt}
 use Rattle.memory.specs.Check.{headsRule, recordsRule, rowsRule}
-use Rattle.memory.specs.HeadFacts.{heads-total}
-use Rattle.memory.specs.CheckWays.{wrong-length, wrong-heads, wrong-records, wrong-rows, right-rows}
-use Rattle.memory.specs.Checked.{check-is-sound}
+use Rattle.memory.proofs.HeadFacts.{heads-total}
+use Rattle.memory.proofs.CheckWays.{wrong-length, wrong-heads, wrong-records, wrong-rows, right-rows}
+use Rattle.memory.proofs.Checked.{check-is-sound}
 use Rattle.memory.proofs.check.check.Statement.{statement}
 use Rattle.memory.proofs.check.check.Tie as tie
 

@@ -4,7 +4,7 @@ use mathlib.Core.Path.{_≡_, refl}
 use native.Mathlib.Omega.{arith}
 use lib.ListN.{length}
 use borrow.Author.Needs.{needs}
-use Rattle.memory.specs.CheckTurns.{Counts, counts-none, counts-turn, found-le, below-at}
+use Rattle.memory.proofs.CheckTurns.{Counts, counts-none, counts-turn, found-le, below-at}
 use Rattle.memory.proofs.check.counted.Statement.{statement}
 use Rattle.memory.proofs.check.counted.Tie as tie
 

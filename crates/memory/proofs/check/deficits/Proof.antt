@@ -1,7 +1,7 @@
 -- The three ways out: no visit, a visit of no slot, a visit of a slot. Assumes nothing.
 use mathlib.Core.Path.{refl}
 use borrow.Author.Needs.{needs}
-use Rattle.memory.specs.CheckWays.{no-visit, no-slot, in-slot}
+use Rattle.memory.proofs.CheckWays.{no-visit, no-slot, in-slot}
 use Rattle.memory.proofs.check.deficits.Statement.{statement}
 use Rattle.memory.proofs.check.deficits.Tie as tie
 

@@ -4,7 +4,7 @@ use mathlib.Core.Path.{_≡_, refl}
 use native.Mathlib.Omega.{arith}
 use borrow.Author.Needs.{needs}
 use Rattle.memory.specs.Check.{inColumnRule}
-use Rattle.memory.specs.MaskSlots.{lowest-less, in-column-turn, in-column-end}
+use Rattle.memory.proofs.MaskSlots.{lowest-less, in-column-turn, in-column-end}
 use Rattle.memory.proofs.check.in_column.Statement.{statement}
 use Rattle.memory.proofs.check.in_column.Tie as tie
 

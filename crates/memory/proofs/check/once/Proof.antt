@@ -6,7 +6,7 @@ use lib.ListN.{getD}
 use borrow.Author.Needs.{needs}
 use Rattle.memory.specs.Reading.{waitingAt}
 use Rattle.memory.specs.Check.{allBelow, found, onceRule, countedRule}
-use Rattle.memory.specs.CheckTurns.{all-turn, all-end}
+use Rattle.memory.proofs.CheckTurns.{all-turn, all-end}
 use Rattle.memory.proofs.check.once.Statement.{statement}
 use Rattle.memory.proofs.check.once.Tie as tie
 

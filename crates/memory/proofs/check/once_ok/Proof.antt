@@ -1,5 +1,5 @@
 -- By cases on whether a record waits. Assumes nothing.
-use Rattle.memory.specs.ByteTests.{once-law}
+use Rattle.memory.proofs.ByteTests.{once-law}
 use Rattle.memory.proofs.check.once_ok.Statement.{statement}
 use Rattle.memory.proofs.check.once_ok.Tie as tie
 

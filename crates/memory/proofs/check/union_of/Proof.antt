@@ -4,7 +4,7 @@ use mathlib.Core.Path.{_≡_, refl}
 use native.Mathlib.Omega.{arith}
 use borrow.Author.Needs.{needs}
 use Rattle.memory.specs.Check.{union}
-use Rattle.memory.specs.CheckTurns.{union-turn}
+use Rattle.memory.proofs.CheckTurns.{union-turn}
 use Rattle.memory.proofs.check.union_of.Statement.{statement}
 use Rattle.memory.proofs.check.union_of.Tie as tie
 

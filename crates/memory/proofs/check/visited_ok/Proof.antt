@@ -2,8 +2,8 @@
 use native.Mathlib.Omega.{arith}
 use borrow.Author.Needs.{needs}
 use Rattle.memory.specs.Check.{maskAt, deficitAt, sizeAt}
-use Rattle.memory.specs.HeadFacts.{first-le}
-use Rattle.memory.specs.CheckWays.{visited-law}
+use Rattle.memory.proofs.HeadFacts.{first-le}
+use Rattle.memory.proofs.CheckWays.{visited-law}
 use Rattle.memory.proofs.check.visited_ok.Statement.{statement}
 use Rattle.memory.proofs.check.visited_ok.Tie as tie
 

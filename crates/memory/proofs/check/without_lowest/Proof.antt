@@ -1,6 +1,6 @@
 -- One less turns the lowest slot and all below it over: only the slots above stay in both. Assumes nothing.
 use borrow.Author.Needs.{needs}
-use Rattle.memory.specs.MaskSlots.{lowest-out}
+use Rattle.memory.proofs.MaskSlots.{lowest-out}
 use Rattle.memory.proofs.check.without_lowest.Statement.{statement}
 use Rattle.memory.proofs.check.without_lowest.Tie as tie
 

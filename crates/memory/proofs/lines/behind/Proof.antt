@@ -4,8 +4,8 @@ use mathlib.Core.Path.{_≡_, refl, sym, ap₂, _∙_}
 use native.Mathlib.Omega.{arith}
 use borrow.Author.Needs.{needs}
 use Rattle.memory.specs.Check.{allBelow, sizeAt, referenceAt, emptyRule, behindRule}
-use Rattle.memory.specs.CheckTurns.{all-turn, all-end}
-use Rattle.memory.specs.NumbersRead.{size-read, reference-read}
+use Rattle.memory.proofs.CheckTurns.{all-turn, all-end}
+use Rattle.memory.proofs.NumbersRead.{size-read, reference-read}
 use Rattle.memory.proofs.lines.behind.Statement.{statement}
 use Rattle.memory.proofs.lines.behind.Tie as tie
 

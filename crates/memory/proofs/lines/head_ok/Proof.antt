@@ -1,6 +1,6 @@
 -- Tests of the bytes are tests of the numbers. Assumes nothing.
 use native.Mathlib.Omega.{arith}
-use Rattle.memory.specs.ByteTests.{head-law}
+use Rattle.memory.proofs.ByteTests.{head-law}
 use Rattle.memory.proofs.lines.head_ok.Statement.{statement}
 use Rattle.memory.proofs.lines.head_ok.Tie as tie
 

@@ -4,8 +4,8 @@ use mathlib.Core.Path.{_≡_, refl, sym, ap, _∙_}
 use native.Mathlib.Omega.{arith}
 use borrow.Author.Needs.{needs}
 use Rattle.memory.specs.Check.{allBelow, headAt, headRule, headsRule}
-use Rattle.memory.specs.CheckTurns.{all-turn, all-end}
-use Rattle.memory.specs.NumbersRead.{head-read}
+use Rattle.memory.proofs.CheckTurns.{all-turn, all-end}
+use Rattle.memory.proofs.NumbersRead.{head-read}
 use Rattle.memory.proofs.lines.heads.Statement.{statement}
 use Rattle.memory.proofs.lines.heads.Tie as tie
 

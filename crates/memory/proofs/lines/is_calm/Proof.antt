@@ -6,7 +6,7 @@ use lib.Dec.{leb}
 use lib.ListN.{getD}
 use borrow.Author.Needs.{needs}
 use Rattle.memory.specs.Check.{allBelow, calm}
-use Rattle.memory.specs.CheckTurns.{all-turn, all-end}
+use Rattle.memory.proofs.CheckTurns.{all-turn, all-end}
 use Rattle.memory.proofs.lines.is_calm.Statement.{statement}
 use Rattle.memory.proofs.lines.is_calm.Tie as tie
 

@@ -6,7 +6,7 @@ use lib.Dec.{eqb}
 use lib.ListN.{getD}
 use borrow.Author.Needs.{needs}
 use Rattle.memory.specs.Check.{allBelow, clear}
-use Rattle.memory.specs.CheckTurns.{all-turn, all-end}
+use Rattle.memory.proofs.CheckTurns.{all-turn, all-end}
 use Rattle.memory.proofs.lines.is_clear.Statement.{statement}
 use Rattle.memory.proofs.lines.is_clear.Tie as tie
 

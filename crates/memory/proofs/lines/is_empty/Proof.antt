@@ -1,5 +1,5 @@
 -- The bytes have no bit set if their numbers are 0. Assumes nothing.
-use Rattle.memory.specs.ByteTests.{empty-law}
+use Rattle.memory.proofs.ByteTests.{empty-law}
 use Rattle.memory.proofs.lines.is_empty.Statement.{statement}
 use Rattle.memory.proofs.lines.is_empty.Tie as tie
 

@@ -2,7 +2,7 @@
 use mathlib.Core.Logic.{⊎-elim}
 use native.Mathlib.Omega.{arith}
 use borrow.Author.Needs.{needs}
-use Rattle.memory.specs.ByteTests.{size-borrow, size-keep}
+use Rattle.memory.proofs.ByteTests.{size-borrow, size-keep}
 use Rattle.memory.proofs.lines.size_ok.Statement.{statement}
 use Rattle.memory.proofs.lines.size_ok.Tie as tie
 

@@ -4,8 +4,8 @@ use mathlib.Core.Path.{_≡_, refl, sym, ap, _∙_}
 use native.Mathlib.Omega.{arith}
 use borrow.Author.Needs.{needs}
 use Rattle.memory.specs.Check.{allBelow, sizeAt, sizeRule, sizesRule}
-use Rattle.memory.specs.CheckTurns.{all-turn, all-end}
-use Rattle.memory.specs.NumbersRead.{size-read}
+use Rattle.memory.proofs.CheckTurns.{all-turn, all-end}
+use Rattle.memory.proofs.NumbersRead.{size-read}
 use Rattle.memory.proofs.lines.sizes.Statement.{statement}
 use Rattle.memory.proofs.lines.sizes.Tie as tie
 

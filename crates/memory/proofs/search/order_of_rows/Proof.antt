@@ -10,7 +10,7 @@ use Rattle.bits.specs.Order.{order}
 use Rattle.bits.specs.OrderLaws.{order-zero, order-or}
 use Rattle.rules.specs.State.{weights, orderOf}
 use Rattle.memory.specs.Reading.{stateOf}
-use Rattle.memory.specs.SearchLaws.{rows-length, order-drop, order-end}
+use Rattle.memory.proofs.SearchLaws.{rows-length, order-drop, order-end}
 use Rattle.memory.proofs.search.order_of_rows.Statement.{statement}
 use Rattle.memory.proofs.search.order_of_rows.Tie as tie
 

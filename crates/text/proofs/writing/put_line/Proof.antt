@@ -2,7 +2,7 @@
 use mathlib.Core.Path.{_∙_}
 use mathlib.Core.List.{[], _∷_}
 use native.Mathlib.Omega.{arith}
-use lib.ListN.{length, length-append}
+use lib.ListN.{length-append}
 use Rattle.text.specs.Commands.{spaced}
 use Rattle.text.proofs.WritingLaws.{written-next, place-next}
 use borrow.Author.Needs.{needs}

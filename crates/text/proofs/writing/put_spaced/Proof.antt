@@ -3,7 +3,6 @@ use mathlib.Core.Path.{_∙_}
 use mathlib.Core.List.{[], _∷_}
 use native.Mathlib.Omega.{arith}
 use Rattle.text.specs.Digits.{digits}
-use Rattle.text.specs.Writing.{written}
 use Rattle.text.proofs.WritingLaws.{written-next}
 use borrow.Author.Needs.{needs}
 use Rattle.text.proofs.writing.put_spaced.Statement.{statement}

@@ -7,7 +7,7 @@ use borrow.Author.Needs.{needs}
 use Rattle.rules.specs.State.{Scan as ScanPoint, weights, orderOf, withScan}
 use Rattle.memory.specs.Layout.{bytesOf}
 use Rattle.memory.specs.Edits.{withOrder}
-use Rattle.memory.specs.PointEdits.{fits-order}
+use Rattle.memory.proofs.PointEdits.{fits-order}
 use Rattle.uplink.proofs.SettledState.{memory-order}
 use Rattle.uplink.proofs.settle.order_again.Statement.{statement}
 use Rattle.uplink.proofs.settle.order_again.Tie as tie

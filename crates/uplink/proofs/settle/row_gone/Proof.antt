@@ -3,7 +3,7 @@ use mathlib.Core.Path.{sym, _∙_}
 use borrow.Author.Needs.{needs}
 use Rattle.rules.specs.Next.{emptied}
 use Rattle.memory.specs.Edits.{rowGone}
-use Rattle.memory.specs.RowEdits.{fits-gone}
+use Rattle.memory.proofs.RowEdits.{fits-gone}
 use Rattle.uplink.proofs.HeadInNumbers.{memory-stored, emptied-waiting}
 use Rattle.uplink.proofs.settle.row_gone.Statement.{statement}
 use Rattle.uplink.proofs.settle.row_gone.Tie as tie

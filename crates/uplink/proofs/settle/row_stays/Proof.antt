@@ -7,8 +7,8 @@ use borrow.Author.Needs.{needs}
 use lib.ListN.{length, getD}
 use Rattle.rules.specs.State.{Record, at, withChannel}
 use Rattle.rules.specs.Next.{rowStays}
-use Rattle.memory.specs.RunLaws.{noRecord}
-use Rattle.memory.specs.SlotEdits.{fits-channel}
+use Rattle.memory.proofs.RunLaws.{noRecord}
+use Rattle.memory.proofs.Fitting.{fits-channel}
 use Rattle.uplink.proofs.HeadInNumbers.{kind-le, memory-stored}
 use Rattle.uplink.proofs.SettledState.{oldest-within, oldest-is, memory-length, stays-point}
 use Rattle.uplink.proofs.settle.row_stays.Statement.{statement}
@@ -46,7 +46,7 @@ returns c =
     in
     let stored = memory-stored (z .state) i (z .channel) (z .head-is) (z .left) (c .before .before .before .before .before .before .store-head .ensures (z .state) (z .fits) (z .memory)) in
     c .before .before .store-scan .ensures (withChannel (z .state) i (z .channel)) (rowStays (z .state) i h (z .channel) .scan)
-    (fits-channel i (z .channel) (z .fits) (z .slot-lt) (z .channel-fits)) stored
+    (fits-channel (z .fits) i (z .channel) (z .slot-lt) (z .channel-fits)) stored
     (stays-point (z .state) i h (z .channel) (z .scan-is) (z .head-is) size (c .before .before .before .before .before .before .before .before .visit-left .ensures))
 
 pub row-stays-spec : {M : Type 1} → statement M

@@ -1,0 +1,107 @@
+-- The slots of a mask looked at one by one, the lowest first: what holds of it and of the rest holds of all. Assumes nothing.
+use Prim.Native.Nat.{ℕ, zero, suc, _+_, _-_, _*_, _/_, _%_, _^_, _≤_, _<_}
+use mathlib.Core.Path.{_≡_, refl, sym, ap, _∙_}
+use mathlib.Core.Bool.{Bool, true, not, _&&_, _||_, and-assoc, and-true}
+use mathlib.Core.List.{List}
+use mathlib.Core.Logic.{inl, inr}
+use native.Mathlib.Omega.{arith}
+use lib.Bits.{bitAnd, and-step, and-self}
+use lib.Dec.{eqb}
+use lib.Pow.{pow-pos}
+use borrow.Author.Tests.{not-false, eqb-true}
+use Rattle.bits.specs.Bit.{bit, withoutBit}
+use Rattle.bits.specs.BitLaws.{parity, bit-le, bit-none, without-zero, without-suc, without-same, without-other}
+use Rattle.bits.specs.Trailing.{trailing}
+use Rattle.bits.specs.TrailingLaws.{trailing-odd, trailing-even, trailing-bit, lt-two-pow}
+use Rattle.bits.specs.SlotsLaws.{if-eq}
+use Rattle.memory.specs.Reading.{waitingAt}
+use Rattle.memory.specs.Check.{weightAt, rowOfRule, inColumnRule}
+use Rattle.memory.proofs.ByteTests.{same-bool, both-true, true-both, or-else, or-unless}
+use Rattle.memory.proofs.CheckTurns.{all-at, all-intro}
+
+-- ---- a mask without its lowest slot
+
+-- what the machine's `m & (m - 1)` gives
+lowest-out-in : (k m : ℕ) → 0 < m → m < 2 ^ k → bitAnd m (m - 1) ≡ withoutBit (trailing m) m
+lowest-out-in zero m p h = absurd (omega arith)
+lowest-out-in (suc k) m p h =
+    elim (parity m) [
+      | inl e ↦
+          let half : (m - 1) / 2 ≡ m / 2 - 1 = omega arith in
+          let rest : bitAnd (m / 2) ((m - 1) / 2) ≡ withoutBit (trailing (m / 2)) (m / 2)
+          = rw half (lowest-out-in k (m / 2) (omega arith) (omega arith)) in
+          let out : withoutBit (trailing m) m ≡ withoutBit (trailing (m / 2)) (m / 2) * 2 + m % 2
+          = rw (trailing-even m p e) (without-suc (trailing (m / 2)) m) in
+          omega (arith, and-step m (m - 1))
+      | inr e ↦
+          let half : (m - 1) / 2 ≡ m / 2 = omega arith in
+          let rest : bitAnd (m / 2) ((m - 1) / 2) ≡ m / 2 = rw half (and-self (m / 2)) in
+          let out : withoutBit (trailing m) m ≡ m / 2 * 2 = rw (trailing-odd m e) (without-zero m) in
+          omega (arith, and-step m (m - 1))
+    ]
+
+pub lowest-out : (m : ℕ) → 0 < m → bitAnd m (m - 1) ≡ withoutBit (trailing m) m
+lowest-out m p = lowest-out-in m m p (lt-two-pow m)
+
+-- it is less than the mask, so the slots left come to an end
+pub lowest-less : (m : ℕ) → 0 < m → withoutBit (trailing m) m < m
+unfolding withoutBit
+lowest-less m p =
+    let one : bit (trailing m) m ≡ 1 = trailing-bit m p in
+    let low : 1 * 2 ^ trailing m ≤ m = rw one at (bit-le (trailing m) m) in
+    rw one (omega (arith, pow-pos (trailing m)))
+
+-- ---- the rule of a column
+
+module _ (b : List ℕ) (c : ℕ) where
+  -- slot i is a row of the column; so it is if it is in the mask
+  abbrev slotRule : ℕ → Bool
+  slotRule i = rowOfRule c (waitingAt b i) (weightAt b i)
+
+  abbrev maskRule : ℕ → ℕ → Bool
+  maskRule m i = not (eqb (bit i m) 1) || slotRule i
+
+  -- the rule of a mask is one of each slot in it
+  pub column-at : (m : ℕ) → inColumnRule b m c ≡ true → (i : ℕ) → i < 64 → bit i m ≡ 1 → slotRule i ≡ true
+  unfolding inColumnRule
+  column-at m e i l one = or-else (not (eqb (bit i m) 1)) (slotRule i) (all-at 64 (maskRule m) e i l) (rw one refl)
+
+  pub at-column : (m : ℕ) → ((i : ℕ) → i < 64 → bit i m ≡ 1 → slotRule i ≡ true) → inColumnRule b m c ≡ true
+  unfolding inColumnRule
+  at-column m h =
+      all-intro 64 (maskRule m)
+      (λ i l. or-unless (not (eqb (bit i m) 1)) (slotRule i) (λ out. h i l (eqb-true (bit i m) 1 (not-false _ out))))
+
+  -- so an empty mask keeps it
+  column-none : inColumnRule b 0 c ≡ true
+  column-none = at-column 0 (λ i l one. absurd (omega (arith, bit-none i)))
+
+  -- and one slot can be looked at before the rest
+  column-split : (m s : ℕ) → s < 64 → bit s m ≡ 1 → inColumnRule b m c ≡ (slotRule s && inColumnRule b (withoutBit s m) c)
+  column-split m s low one =
+      same-bool (inColumnRule b m c) (slotRule s && inColumnRule b (withoutBit s m) c)
+      (λ e. true-both (column-at m e s low one) (at-column (withoutBit s m) (λ i l o. column-at m e i l (kept i o))))
+      (λ e.
+      let (here, rest) = both-true (slotRule s) (inColumnRule b (withoutBit s m) c) e in
+      at-column m
+      (λ i l o.
+      if-eq i s (λ q. rw q here) (λ d. column-at (withoutBit s m) rest i l (without-other s i m d ∙ o))))
+    where
+      kept : (i : ℕ) → bit i (withoutBit s m) ≡ 1 → bit i m ≡ 1
+      kept i o =
+          if-eq i s (λ q. absurd (let none : bit i (withoutBit s m) ≡ 0 = rw q (without-same s m) in omega arith))
+          (λ d. sym (without-other s i m d) ∙ o)
+
+  -- ---- what the loop over the slots of a mask keeps: those looked at and those left make up the whole
+
+  pub in-column-turn : (ok t all : Bool) (left s w rest : ℕ) → (ok && inColumnRule b left c) ≡ all → 0 < left → s ≡ trailing left → s < 64
+      → w ≡ weightAt b s → t ≡ rowOfRule c (waitingAt b s) w → rest ≡ withoutBit (trailing left) left
+      → ((ok && t) && inColumnRule b rest c) ≡ all
+  in-column-turn ok t all left s w rest inv p low-is low g e out =
+      let one : bit s left ≡ 1 = rw low-is (trailing-bit left p) in
+      let less : rest ≡ withoutBit s left = rw low-is out in
+      and-assoc ok t (inColumnRule b rest c)
+      ∙ rw (e, g, less) (ap (λ (x : Bool). ok && x) (sym (column-split left s low one)) ∙ inv)
+
+  pub in-column-end : (ok all : Bool) (left : ℕ) → (ok && inColumnRule b left c) ≡ all → left ≡ 0 → ok ≡ all
+  in-column-end ok all left inv none = sym (and-true ok) ∙ rw (none, column-none) at inv
