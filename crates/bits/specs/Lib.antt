@@ -4,6 +4,7 @@ pub mod Order
 pub mod OrderLaws
 pub mod Trailing
 pub mod TrailingLaws
+pub mod LowestLaws
 pub mod Mask
 pub mod MaskLaws
 pub mod Slots

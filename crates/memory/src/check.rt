@@ -10,8 +10,6 @@ ghost use mathlib.Core.Path.{_≡_};
 ghost use mathlib.Core.Bool.{true};
 ghost use Prim.Native.Nat.{ℕ, _<_, _≤_};
 ghost use lib.ListN.{length, getD};
-ghost use Rattle.bits.specs.Bit.{withoutBit};
-ghost use Rattle.bits.specs.Trailing.{trailing};
 ghost use Rattle.memory.specs.Reading.{firstAt};
 ghost use Rattle.memory.specs.Memory.{soundBytes};
 ghost use Rattle.memory.specs.Check.{found, onceRule, belowRule, countedRule, rowsRule, weightAt, rowWeight, union, orderRule, rowOfRule, inColumnRule, toVisitRule, visitedRule, deficitsRule, scanRule};
@@ -153,22 +151,6 @@ fn is_row_of(column: u32, waiting: u8, weight: u16) -> bool
     (waiting != 0) & bits::in_mask(weight as u64, column)
 }
 
-// The lowest slot of a mask that has one.
-fn lowest_in(mask: u64) -> usize
-    requires { ⌜ 0 < mask ⌝ }
-    ensures { λ r. ⌜ (r ≡ trailing mask) × (r < 64) ⌝ }
-{
-    u64::trailing_zeros(mask) as usize
-}
-
-// The mask without it.
-fn without_lowest(mask: u64) -> u64
-    requires { ⌜ 0 < mask ⌝ }
-    ensures { λ r. ⌜ r ≡ withoutBit (trailing mask) mask ⌝ }
-{
-    mask & (mask - 1)
-}
-
 // Whether every slot in the mask is a row of the column. A turn for each slot in the mask: most masks have few.
 fn in_column(state: &[u8], mask: u64, column: u32) -> bool
     requires { ⌜ (length (now state) ≡ 7040) × (column < 12) ⌝ }
@@ -177,9 +159,9 @@ fn in_column(state: &[u8], mask: u64, column: u32) -> bool
     let mut ok = true;
     let mut left = mask;
     while left != 0 {
-        let s = lowest_in(left);
+        let s = bits::lowest_in(left) as usize;
         ok = ok & is_row_of(column, state[layout::WAITING + s], weight_of(state, s));
-        left = without_lowest(left);
+        left = bits::without_lowest(left);
     }
     ok
 }

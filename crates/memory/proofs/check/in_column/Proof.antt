@@ -3,8 +3,9 @@ use mathlib.Core.Bool.{_&&_}
 use mathlib.Core.Path.{_≡_, refl}
 use native.Mathlib.Omega.{arith}
 use borrow.Author.Needs.{needs}
+use Rattle.bits.specs.LowestLaws.{lowest-less}
 use Rattle.memory.specs.Check.{inColumnRule}
-use Rattle.memory.proofs.MaskSlots.{lowest-less, in-column-turn, in-column-end}
+use Rattle.memory.proofs.MaskSlots.{in-column-turn, in-column-end}
 use Rattle.memory.proofs.check.in_column.Statement.{statement}
 use Rattle.memory.proofs.check.in_column.Tie as tie
 
@@ -19,6 +20,9 @@ loop-holds c = refl
 
 lowest-in-requires : tie.Need-lowest-in-requires Inv-loop μ-loop
 lowest-in-requires c κs = search needs
+
+cast-s : tie.Need-cast-s Inv-loop μ-loop
+cast-s c = search needs
 
 add-is-row-of : tie.Need-add-is-row-of Inv-loop μ-loop
 add-is-row-of c = search needs
@@ -56,6 +60,7 @@ in-column-spec =
     μ-loop
     loop-holds
     lowest-in-requires
+    cast-s
     add-is-row-of
     shared-slice-read-is-row-of
     weight-of-requires

@@ -1,8 +1,8 @@
 -- One less turns the lowest slot and all below it over: only the slots above stay in both. Assumes nothing.
 use borrow.Author.Needs.{needs}
-use Rattle.memory.proofs.MaskSlots.{lowest-out}
-use Rattle.memory.proofs.check.without_lowest.Statement.{statement}
-use Rattle.memory.proofs.check.without_lowest.Tie as tie
+use Rattle.bits.specs.LowestLaws.{lowest-out}
+use Rattle.bits.proofs.without_lowest.Statement.{statement}
+use Rattle.bits.proofs.without_lowest.Tie as tie
 
 sub-result : tie.Need-sub-result
 sub-result c = search needs
