@@ -1,4 +1,4 @@
--- The check of a lent memory as the code goes about it: loop by loop, over the numbers that stand in the lines. specs/Checked shows that it is
+-- The check of a lent memory as the code goes about it: loop by loop, over the numbers that stand in the lines. proofs/Checked shows that it is
 -- `soundBytes`. Assumes nothing.
 use Prim.Native.Nat.{ℕ, zero, suc, _+_, _-_}
 use mathlib.Core.Bool.{Bool, true, not, cond, _&&_, _||_}

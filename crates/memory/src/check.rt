@@ -1,6 +1,6 @@
 // Whether a lent memory is a sound state's, on any bytes.
 //
-// Between the loops a rule that fails ends the check. specs/Check.antt says the same rule by rule, specs/Checked.antt that this is what soundness of
+// Between the loops a rule that fails ends the check. specs/Check.antt says the same rule by rule, proofs/Checked.antt that this is what soundness of
 // the state read asks.
 use super::layout;
 use super::lines;

@@ -15,13 +15,14 @@ use Rattle.spread.specs.Answer.{noneWaits, refused, given}
 use Rattle.rules.specs.Numbers.{granted}
 use Rattle.rules.specs.State.{Record, cost, Channel, State, blank, at, withScan}
 use Rattle.rules.specs.Next as rules
-use Rattle.rules.specs.Next.{chooseBy, headSerial, paying, settled, sendBy, nextCall}
+use Rattle.rules.specs.Next.{headSerial, paying, settled, sendBy, nextCall}
 use Rattle.rules.proofs.Facts.{HeadOk, SoundTo, grantLimit}
 use Rattle.rules.proofs.Channels.{at-same}
 use Rattle.rules.proofs.Rows.{visit-row, visit-lt, order-most}
 use Rattle.rules.proofs.Steps.{settle-kept}
 use Rattle.rules.proofs.Choosing as choosing
 use Rattle.rules.proofs.Choosing.{owing}
+use Rattle.rules.proofs.Served.{next-chosen}
 use Rattle.memory.specs.declared.heads.Head.{Head}
 use Rattle.memory.specs.declared.point.Scan.{Scan}
 use Rattle.memory.specs.Layout.{bytesOf, memoryLength}
@@ -63,11 +64,6 @@ pub record Serving (s : State) (x : Chosen) : Type 0 where
   pub still : at (state .channels) (x .slot) .waiting ≡ first ∷ rest
   pub within : cost first ≤ at (state .channels) (x .slot) .deficit
   pub answer : nextCall s ≡ sendBy (first ∷ rest) (record { slot = x .slot; started = x .started; terms = x .terms; state = state }) (at (state .channels) (x .slot))
-
-next-chosen : (s : State) (x : rules.Chosen) (h : Record) (rest : List Record) → isEmpty (s .rows) ≡ false → chooseBy (s .scan .visit) s ≡ given x
-    → at (x .state .channels) (x .slot) .waiting ≡ h ∷ rest → nextCall s ≡ sendBy (h ∷ rest) x (at (x .state .channels) (x .slot))
-unfolding nextCall
-next-chosen s x h rest e g w = rw (e, g) (ap (λ (rs : List Record). sendBy rs x (at (x .state .channels) (x .slot))) w)
 
 slot-inj : {x y : Chosen} → choice.Slot x ≡ choice.Slot y → x ≡ y
 slot-inj e = cc
