@@ -1,2 +1,4 @@
+pub mod WordsLaws
+pub mod EnteredLaws
 pub mod Twos
 pub mod Examples

@@ -8,7 +8,7 @@ use lib.Dec.{leb, ltb, eqb}
 use lib.ListN.{length, getD}
 use borrow.Author.Tests.{not-true, eqb-true, eqb-false, eq-eqb, leb-true, le-leb, ltb-true, ltb-false, lt-ltb}
 use Rattle.bits.specs.Bit.{bit}
-use Rattle.bits.specs.BitLaws.{bit-lt, bit-none}
+use Rattle.bits.proofs.BitLaws.{bit-lt, bit-none}
 use Rattle.bits.specs.Order.{order}
 use Rattle.bits.specs.Slots.{oneIf}
 use Rattle.octets.specs.Number.{Bytes}

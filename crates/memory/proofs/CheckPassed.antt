@@ -8,7 +8,7 @@ use lib.Dec.{leb, ltb, eqb}
 use lib.ListN.{getD}
 use borrow.Author.Tests.{eqb-true, eq-eqb, leb-true, le-leb, ltb-true, lt-ltb}
 use Rattle.bits.specs.Order.{order}
-use Rattle.bits.specs.OrderLaws.{order-le}
+use Rattle.bits.proofs.OrderLaws.{order-le}
 use Rattle.octets.specs.Number.{Bytes}
 use Rattle.rules.proofs.TestLists.{Hold}
 use Rattle.memory.specs.Reading.{waitingAt, firstAt}

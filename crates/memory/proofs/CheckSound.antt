@@ -11,11 +11,11 @@ use lib.Dec.{ltb, eqb}
 use lib.ListN.{getD, List·getD-eq-default}
 use borrow.Author.Tests.{eqb-true, eqb-false, eq-eqb, ne-eqb, ltb-true, ltb-false}
 use Rattle.bits.specs.Bit.{bit}
-use Rattle.bits.specs.BitLaws.{bit-high, bit-cases, bit-none, bit-ext}
-use Rattle.bits.specs.Slots.{oneIf, occurs}
-use Rattle.bits.specs.SlotsLaws.{occurs-keep, Part}
+use Rattle.bits.proofs.BitLaws.{bit-high, bit-cases, bit-none, bit-ext}
+use Rattle.bits.specs.Slots.{oneIf, occurs, Part}
+use Rattle.bits.proofs.SlotsLaws.{occurs-keep}
 use Rattle.octets.specs.Number.{upward, Bytes}
-use Rattle.octets.specs.NumberLaws.{num-lt}
+use Rattle.octets.proofs.NumberLaws.{num-lt}
 use Rattle.rules.specs.Numbers.{visitLimit, restLimit}
 use Rattle.rules.specs.State.{Record, cost, free, closing, Channel, Scan, blank, at, weights, columnOf}
 use Rattle.bits.specs.Tests.{isEmpty}

@@ -13,7 +13,7 @@ use lib.ListN.{length, getD, set, replicate}
 use lib.Seq.{getD-set-same, getD-set-other}
 use borrow.Author.Tests.{eq-eqb, ne-eqb, ltb-true}
 use Rattle.bits.specs.Slots.{oneIf}
-use Rattle.bits.specs.SlotsLaws.{if-eq}
+use Rattle.bits.proofs.SlotsLaws.{if-eq}
 use Rattle.memory.specs.Reading.{waitingAt}
 use Rattle.memory.specs.Check.{allBelow, weightAt, belowRule, found, rowWeight, union}
 use Rattle.memory.proofs.ByteTests.{both-true, true-both}

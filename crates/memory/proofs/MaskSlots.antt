@@ -7,10 +7,10 @@ use native.Mathlib.Omega.{arith}
 use lib.Dec.{eqb}
 use borrow.Author.Tests.{not-false, eqb-true}
 use Rattle.bits.specs.Bit.{bit, withoutBit}
-use Rattle.bits.specs.BitLaws.{bit-none, without-same, without-other}
+use Rattle.bits.proofs.BitLaws.{bit-none, without-same, without-other}
 use Rattle.bits.specs.Trailing.{trailing}
-use Rattle.bits.specs.TrailingLaws.{trailing-bit}
-use Rattle.bits.specs.SlotsLaws.{if-eq}
+use Rattle.bits.proofs.TrailingLaws.{trailing-bit}
+use Rattle.bits.proofs.SlotsLaws.{if-eq}
 use Rattle.memory.specs.Reading.{waitingAt}
 use Rattle.memory.specs.Check.{weightAt, rowOfRule, inColumnRule}
 use Rattle.memory.proofs.ByteTests.{same-bool, both-true, true-both, or-else, or-unless}

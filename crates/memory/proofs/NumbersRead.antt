@@ -5,7 +5,7 @@ use mathlib.Core.List.{List}
 use native.Mathlib.Omega.{arith}
 use lib.ListN.{getD}
 use Rattle.octets.specs.Number.{upward, num}
-use Rattle.octets.specs.NumberLaws.{num-one, num-upward}
+use Rattle.octets.proofs.NumberLaws.{num-one, num-upward}
 use Rattle.memory.specs.Check.{headOf, headAt, weightAt, deficitAt, sizeAt, referenceAt}
 
 pub num-two : (p q t : ℕ) (b : List ℕ) → p + t ≡ q → num (upward p t) 2 b ≡ getD b p 0 + 256 * getD b q 0

@@ -13,9 +13,9 @@ use lib.ListN.{getD}
 use lib.Pow.{pow-pos, pow-mono}
 use borrow.Author.Tests.{ne-eqb, ltb-true, ltb-false}
 use Rattle.bits.specs.Order.{order}
-use Rattle.bits.specs.OrderLaws.{order-lt, order-le, order-or}
-use Rattle.bits.specs.Slots.{oneIf, occurs, keepIf, keep}
-use Rattle.bits.specs.SlotsLaws.{occurs-same, occurs-tail, occurs-append, Part}
+use Rattle.bits.proofs.OrderLaws.{order-lt, order-le, order-or}
+use Rattle.bits.specs.Slots.{oneIf, occurs, keepIf, keep, Part}
+use Rattle.bits.proofs.SlotsLaws.{occurs-same, occurs-tail, occurs-append}
 use Rattle.rules.specs.State.{orderOf}
 use Rattle.bits.specs.Tests.{isEmpty}
 use Rattle.rules.proofs.Columns.{orderOf-row, orderOf-le}

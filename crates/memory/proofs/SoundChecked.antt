@@ -10,10 +10,10 @@ use lib.Dec.{ltb, eqb}
 use lib.ListN.{length, getD}
 use borrow.Author.Tests.{eqb-true, eq-eqb, ne-eqb, ltb-true, ltb-false}
 use Rattle.bits.specs.Bit.{bit}
-use Rattle.bits.specs.BitLaws.{bit-none}
+use Rattle.bits.proofs.BitLaws.{bit-none}
 use Rattle.bits.specs.Mask.{maskOf}
 use Rattle.bits.specs.Slots.{oneIf, occurs}
-use Rattle.bits.specs.SlotsLaws.{occurs-part}
+use Rattle.bits.proofs.SlotsLaws.{occurs-part}
 use Rattle.octets.specs.Number.{upward, num}
 use Rattle.rules.specs.Numbers.{visitLimit}
 use Rattle.rules.specs.State.{Record, cost, Channel, State, blank, at, weights}

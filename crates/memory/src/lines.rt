@@ -1,4 +1,4 @@
-// The rules of the lent memory that are loops over whole lines, and what such a line sums to.
+// The rules of the lent memory that are loops over whole lines.
 //
 // Each loop looks at every byte of its line and has no way out in the middle: the compiler turns such a loop into steps of 16 bytes.
 use super::layout;

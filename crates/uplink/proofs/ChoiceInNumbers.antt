@@ -12,7 +12,7 @@ use borrow.Author.Tests.{leb-true, leb-false}
 use Rattle.bits.specs.Bit.{withoutBit}
 use Rattle.bits.specs.Mask.{maskOf}
 use Rattle.bits.specs.Slots.{occurs}
-use Rattle.bits.specs.SlotsLaws.{occurs-same, occurs-part}
+use Rattle.bits.proofs.SlotsLaws.{occurs-same, occurs-part}
 use Rattle.bits.specs.Tests.{isEmpty}
 use Rattle.spread.specs.Answer.{noRow, Answer, refused, given}
 use Rattle.spread.specs.Sequence.{term}

@@ -9,7 +9,7 @@ use native.Mathlib.Omega.{arith}
 use lib.ListN.{length, getD, set, length-set}
 use lib.Seq.{ext-getD, getD-set-same, getD-set-other}
 use borrow.Author.Tests.{eq-eqb}
-use Rattle.bits.specs.SlotsLaws.{if-eq}
+use Rattle.bits.proofs.SlotsLaws.{if-eq}
 use Rattle.bits.specs.Tests.{isEmpty}
 use Rattle.spread.specs.Answer.{noneWaits, refused, given}
 use Rattle.rules.specs.Numbers.{granted}

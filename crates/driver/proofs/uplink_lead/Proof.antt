@@ -3,10 +3,10 @@ use mir.Syntax.{w64}
 use mir.Facts.{toZ-ofZ}
 use borrow.Author.Needs.{needs}
 use mathlib.Core.Path.{refl, ap, _∙_}
-use Rattle.driver.specs.EnteredLaws.{entered-kept, entered-refused, entered-given}
+use Rattle.driver.proofs.EnteredLaws.{entered-kept, entered-refused, entered-given}
 use Rattle.driver.specs.Entered.{stateless}
 use Rattle.driver.specs.Words.{lowFirst, twos}
-use Rattle.driver.specs.WordsLaws.{put-whole}
+use Rattle.driver.proofs.WordsLaws.{put-whole}
 use Rattle.driver.proofs.uplink_lead.Statement.{statement}
 use Rattle.driver.proofs.uplink_lead.Tie as tie
 

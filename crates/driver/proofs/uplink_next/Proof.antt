@@ -1,6 +1,6 @@
 -- A buffer of another length keeps all, a refusal has cleared it, and an answer's fields are its words. Assumes nothing.
 use borrow.Author.Needs.{needs}
-use Rattle.driver.specs.EnteredLaws.{entered-kept, entered-refused, entered-given}
+use Rattle.driver.proofs.EnteredLaws.{entered-kept, entered-refused, entered-given}
 use Rattle.driver.proofs.uplink_next.Statement.{statement}
 use Rattle.driver.proofs.uplink_next.Tie as tie
 

@@ -4,7 +4,7 @@ use mathlib.Core.List.{[]}
 use borrow.Author.Needs.{needs}
 use denote.Ref.{now}
 use Rattle.driver.specs.Entered.{startBytes}
-use Rattle.driver.specs.EnteredLaws.{entered-refused, entered-given}
+use Rattle.driver.proofs.EnteredLaws.{entered-refused, entered-given}
 use Rattle.driver.proofs.uplink_start.Statement.{statement}
 use Rattle.driver.proofs.uplink_start.Tie as tie
 

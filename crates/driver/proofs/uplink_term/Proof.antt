@@ -1,7 +1,7 @@
 -- A buffer of another length keeps all, a refusal has cleared it, and an answer's fields are its words. Assumes nothing.
 use borrow.Author.Needs.{needs}
 use mathlib.Core.Path.{refl, ap}
-use Rattle.driver.specs.EnteredLaws.{entered-kept, entered-refused, entered-given}
+use Rattle.driver.proofs.EnteredLaws.{entered-kept, entered-refused, entered-given}
 use Rattle.driver.specs.Entered.{stateless}
 use Rattle.driver.proofs.uplink_term.Statement.{statement}
 use Rattle.driver.proofs.uplink_term.Tie as tie

@@ -5,7 +5,7 @@ use native.Mathlib.Omega.{arith}
 use borrow.Author.Needs.{needs}
 use denote.Ref.{now}
 use lib.ListN.{length}
-use Rattle.driver.specs.WordsLaws.{writing, writing-none, writing-next, written}
+use Rattle.driver.proofs.WordsLaws.{writing, writing-none, writing-next, written}
 use Rattle.driver.proofs.answers.give.Statement.{statement}
 use Rattle.driver.proofs.answers.give.Tie as tie
 

@@ -3,7 +3,7 @@ use mathlib.Core.Bool.{_&&_}
 use mathlib.Core.Path.{_≡_, refl}
 use native.Mathlib.Omega.{arith}
 use borrow.Author.Needs.{needs}
-use Rattle.bits.specs.LowestLaws.{lowest-less}
+use Rattle.bits.proofs.LowestLaws.{lowest-less}
 use Rattle.memory.specs.Check.{inColumnRule}
 use Rattle.memory.proofs.MaskSlots.{in-column-turn, in-column-end}
 use Rattle.memory.proofs.check.in_column.Statement.{statement}
