@@ -1,6 +1,7 @@
 //! Memories that break a rule of soundness, by name: each rule alone where that can be, and bytes that stand for nothing.
 
 use crate::layout;
+use crate::random::Random;
 use crate::scheduler::{Kind, Record, Scheduler};
 use crate::sound::Rule;
 use crate::states::{full, rich};
@@ -16,6 +17,30 @@ fn broken(name: &'static str, rules: &'static [Rule], from: Scheduler, change: f
     let mut scheduler = from;
     change(&mut scheduler);
     Breakage { name, rules, scheduler }
+}
+
+/// The state with one number just beyond its limit, or at most a byte beyond; a visit's own deficit may still be within.
+pub fn beyond_a_limit(random: &mut Random, from: &Scheduler) -> Scheduler {
+    let mut state = from.clone();
+    let choice = if state.rows.is_empty() { 0 } else { random.below(5) };
+    match choice {
+        0 => state.scan.position = 1 << state.order,
+        1 => state.order += 1,
+        _ => {
+            let channel = &mut state.channels[random.pick(&from.rows)];
+            let record = random.below(channel.records.len() as u64) as usize;
+            match choice {
+                2 => channel.records[record].length = random.pick(&[0, 1_025, 1_279]),
+                3 => channel.deficit = random.pick(&[1_024, 1_279, 2_047]),
+                _ => {
+                    // The order follows, so that the weight alone is wrong.
+                    channel.weight = random.pick(&[4_096, 4_351]);
+                    state.order = 13;
+                }
+            }
+        }
+    }
+    state
 }
 
 /// Each rule over the plain structure, broken in turn.

@@ -1,6 +1,7 @@
 //! Histories from seeds. A history is built beside a scheduler of its own, so that most calls are ones that can be accepted.
 
 use crate::compare::state_call;
+use crate::damage::beyond_a_limit;
 use crate::history::{Call, History, Step};
 use crate::layout;
 use crate::random::Random;
@@ -29,6 +30,18 @@ pub fn history_of(shape: &'static Shape, seed: u64) -> History {
     History { seed, shape: shape.name, memory, steps: builder.steps }
 }
 
+/// Calls that `lift` has, of this shape and seed, without end. They begin on the fresh state, as `lift` does.
+pub fn commands(shape: &'static Shape, seed: u64) -> impl Iterator<Item = Call> {
+    let now = Scheduler::start();
+    let mut builder = Builder { random: Random::new(seed), shape, now, sound: true, old: Vec::new(), steps: Vec::new() };
+    let of_lift = |action| !matches!(action, Action::Ask | Action::Apart | Action::Damage | Action::Mislent | Action::Start);
+    let stretches = std::iter::from_fn(move || {
+        builder.stretch(of_lift);
+        Some(std::mem::take(&mut builder.steps))
+    });
+    stretches.flatten().filter_map(|step| step.command())
+}
+
 struct Builder {
     random: Random,
     shape: &'static Shape,
@@ -48,10 +61,17 @@ impl Builder {
             }
         }
         for _ in 0..self.random.from_to(1, 6) {
-            // Fill, drain, or neither: the part that Put and Next have beside what the shape gives them.
-            let (fill, drain) = self.random.pick(&[(4, 1), (1, 4), (1, 1)]);
-            for _ in 0..self.random.from_to(1, 80) {
-                let action = self.choose(fill, drain);
+            self.stretch(|_| true);
+        }
+    }
+
+    /// Some actions of one kind, those that are wanted: fill, drain, or neither.
+    fn stretch(&mut self, wanted: impl Fn(Action) -> bool) {
+        // The part that Put and Next have beside what the shape gives them.
+        let (fill, drain) = self.random.pick(&[(4, 1), (1, 4), (1, 1)]);
+        for _ in 0..self.random.from_to(1, 80) {
+            let action = self.choose(fill, drain);
+            if wanted(action) {
                 self.act(action);
             }
         }
@@ -238,15 +258,21 @@ impl Builder {
 
     fn damage(&mut self) {
         let bytes = layout::to_bytes(&self.now);
-        let place = match self.random.below(3) {
-            0 => self.random.below(896),
-            1 => self.random.from_to(832, 846),
-            _ => self.random.below(layout::LENGTH as u64),
-        } as usize;
-        let flip = if self.random.chance(1, 2) { 1 << self.random.below(8) } else { self.random.from_to(1, 255) as u8 };
-        let mut damaged = bytes;
-        damaged[place] ^= flip;
-        self.steps.push(Step::Damage { place, flip });
+        let mut damaged = bytes.clone();
+        if self.random.chance(1, 4) {
+            damaged = layout::to_bytes(&beyond_a_limit(&mut self.random, &self.now));
+        } else {
+            let place = match self.random.below(4) {
+                0 => self.random.below(896),
+                1 => self.random.from_to(832, 845),
+                2 => self.random.from_to(846, 895),
+                _ => self.random.below(layout::LENGTH as u64),
+            } as usize;
+            damaged[place] ^= if self.random.chance(1, 2) { 1 << self.random.below(8) } else { self.random.from_to(1, 255) as u8 };
+        }
+        let changed = (0..layout::LENGTH).filter(|&place| damaged[place] != bytes[place]);
+        let changes: Vec<Step> = changed.map(|place| Step::Damage { place, flip: damaged[place] ^ bytes[place] }).collect();
+        self.steps.extend(&changes);
         match layout::sound_from_bytes(&damaged) {
             Some(scheduler) => self.now = scheduler,
             None => {
@@ -255,7 +281,7 @@ impl Builder {
                     let call = self.any_call();
                     self.push(call);
                 }
-                self.steps.push(Step::Damage { place, flip });
+                self.steps.extend(&changes);
                 self.sound = true;
             }
         }

@@ -68,6 +68,16 @@ pub enum Step {
     },
 }
 
+impl Step {
+    /// The call, where it is one that the command program has.
+    pub fn command(self) -> Option<Call> {
+        match self {
+            Step::Call(call @ (Call::Open { .. } | Call::Put { .. } | Call::Close { .. } | Call::Next)) => Some(call),
+            _ => None,
+        }
+    }
+}
+
 impl fmt::Display for Step {
     fn fmt(&self, out: &mut fmt::Formatter) -> fmt::Result {
         match self {

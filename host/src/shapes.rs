@@ -20,7 +20,7 @@ pub enum Action {
     Bad,
     /// Lead or term.
     Apart,
-    /// A byte of the memory is changed, some calls are made, and it is changed back if it made the memory unsound.
+    /// A byte or a number of the memory is changed, some calls are made, and it is changed back if it made the memory unsound.
     Damage,
     /// A call with other lengths of state or answer.
     Mislent,

@@ -5,8 +5,8 @@ use std::path::Path;
 use std::process::{Command, Stdio};
 use std::thread;
 
-use crate::generate::history_of;
-use crate::history::{Call, Step};
+use crate::generate::{commands, history_of};
+use crate::history::Step;
 use crate::lift::{lift, LARGEST_INPUT};
 use crate::random::Random;
 use crate::shapes::SHAPES;
@@ -17,15 +17,13 @@ pub fn text(seed: u64) -> Vec<u8> {
     let shape = &SHAPES[random.below(SHAPES.len() as u64) as usize];
     let spoilt = random.pick(&[0, 0, 5, 100]);
     let mut text = Vec::new();
-    for step in history_of(shape, seed).steps {
-        if let Step::Call(call @ (Call::Open { .. } | Call::Put { .. } | Call::Close { .. } | Call::Next)) = step {
-            let mut line = call.to_string().into_bytes();
-            if random.chance(spoilt, 1_000) {
-                spoil(&mut random, &mut line);
-            }
-            text.extend(line);
-            text.push(b'\n');
+    for call in history_of(shape, seed).steps.into_iter().filter_map(Step::command) {
+        let mut line = call.to_string().into_bytes();
+        if random.chance(spoilt, 1_000) {
+            spoil(&mut random, &mut line);
         }
+        text.extend(line);
+        text.push(b'\n');
     }
     match random.below(16) {
         0 => text.truncate(text.len().saturating_sub(1)),
@@ -35,6 +33,29 @@ pub fn text(seed: u64) -> Vec<u8> {
         _ => {}
     }
     text
+}
+
+/// A text of the seed with just so many command lines. A line has 46 bytes at the most, so 1,000 lines are always within the largest input.
+pub fn of_lines(seed: u64, count: usize) -> Vec<u8> {
+    command_lines(seed).take(count).collect::<Vec<String>>().concat().into_bytes()
+}
+
+/// A text of the seed with as many command lines as the largest input holds.
+pub fn of_most_lines(seed: u64) -> Vec<u8> {
+    let mut text = Vec::new();
+    for line in command_lines(seed) {
+        if text.len() + line.len() > LARGEST_INPUT {
+            break;
+        }
+        text.extend(line.bytes());
+    }
+    text
+}
+
+/// Command lines without end; the shape goes by the seed.
+fn command_lines(seed: u64) -> impl Iterator<Item = String> {
+    let shape = &SHAPES[(seed % SHAPES.len() as u64) as usize];
+    commands(shape, seed).map(|call| format!("{call}\n"))
 }
 
 /// Lengthens the text by commands and empty lines to just this length.
@@ -72,20 +93,42 @@ pub fn printed(program: &Path, input: &[u8]) -> io::Result<Vec<u8>> {
     Ok(output.stdout)
 }
 
-/// Compares the program on the texts of these seeds. The number of texts, or the shortest text found that it answers otherwise.
-pub fn compare(program: &Path, seeds: impl IntoIterator<Item = u64>) -> io::Result<Result<u64, String>> {
-    let mut count = 0;
+/// What was compared.
+#[derive(Clone, Copy, Debug, Default, PartialEq, Eq)]
+pub struct Compared {
+    pub texts: u64,
+    /// Lines printed, one for each line read.
+    pub lines: u64,
+}
+
+/// Compares the program on the texts of these seeds. What was compared, or how many lines were printed up to the first that differs, and the shortest
+/// text found that the program answers otherwise.
+pub fn compare(
+    program: &Path,
+    text: impl Fn(u64) -> Vec<u8>,
+    seeds: impl IntoIterator<Item = u64>,
+) -> io::Result<Result<Compared, String>> {
+    let mut compared = Compared::default();
     for seed in seeds {
         let input = text(seed);
-        if printed(program, &input)? != lift(&input) {
+        let (is, should) = (printed(program, &input)?, lift(&input));
+        if is != should {
+            let same = is.iter().zip(&should).take_while(|(one, other)| one == other).count();
+            let lines = compared.lines + count_lines(&should[..same]) + 1;
             let input = shortest(program, input)?;
             let (is, should) = (printed(program, &input)?, lift(&input));
             let show = |bytes: &[u8]| bytes.escape_ascii().to_string().replace("\\n", "\\n\n");
-            return Ok(Err(format!("seed {seed}\ninput:\n{}\nprinted:\n{}\nshould be:\n{}", show(&input), show(&is), show(&should))));
+            let texts = format!("input:\n{}\nprinted:\n{}\nshould be:\n{}", show(&input), show(&is), show(&should));
+            return Ok(Err(format!("difference after {lines} lines, seed {seed}\n{texts}")));
         }
-        count += 1;
+        compared.texts += 1;
+        compared.lines += count_lines(&should);
     }
-    Ok(Ok(count))
+    Ok(Ok(compared))
+}
+
+fn count_lines(printed: &[u8]) -> u64 {
+    printed.iter().filter(|&&byte| byte == b'\n').count() as u64
 }
 
 /// Removes runs of lines, long runs first, as long as the outputs differ.

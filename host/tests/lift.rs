@@ -1,5 +1,8 @@
 //! The command program's text on the independent scheduler.
 
+mod forms;
+
+use forms::OTHER_FORMS;
 use host::lift::{lift, LARGEST_INPUT};
 
 fn text(input: &str) -> String {
@@ -17,41 +20,9 @@ fn the_listing() {
 
 #[test]
 fn lines_of_any_other_form() {
-    for line in [
-        " ",
-        "O",
-        "O ",
-        "O  1",
-        "O 1 ",
-        " O 1",
-        "O 1 1",
-        "O 01",
-        "O 00",
-        "O +1",
-        "O -1",
-        "O 1.",
-        "O 1\r",
-        "O\t1",
-        "o 1",
-        "O 4294967296",
-        "O 99999999999999999999",
-        "N ",
-        "N 1",
-        "NN",
-        "P 0 1 1",
-        "P 0 1 1 1 1",
-        "C 0",
-        "C 0 1 2",
-        "A 0 1",
-        "R 1",
-        "?",
-        "#",
-        "O 1\0",
-        "\0",
-        "O1",
-    ] {
-        assert_eq!(text(&format!("{line}\n")), "?\n", "{line:?}");
-        assert_eq!(text(line), "?\n", "{line:?}");
+    for &line in OTHER_FORMS {
+        assert_eq!(lift(line), b"?\n", "{:?}", line.escape_ascii());
+        assert_eq!(lift(&[line, b"\n"].concat()), b"?\n", "{:?}", line.escape_ascii());
     }
     assert_eq!(lift(b"O 1\xff\nO 2\n"), b"?\nO 0 1\n");
 }

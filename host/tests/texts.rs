@@ -3,21 +3,39 @@
 use std::path::Path;
 
 use host::lift::lift;
-use host::texts::{compare, text};
+use host::texts::{compare, of_lines, of_most_lines, text};
 
 #[test]
 fn the_model_program_passes() {
     let program = Path::new(env!("CARGO_BIN_EXE_lift_model"));
-    assert_eq!(compare(program, 1..120).unwrap(), Ok(119));
+    assert_eq!(compare(program, text, 1..120).unwrap().unwrap().texts, 119);
 }
 
 /// `cat` prints the commands themselves: one line is enough to see that.
 #[test]
 #[cfg(unix)]
 fn another_program_does_not() {
-    let difference = compare(Path::new("cat"), 1..20).unwrap().unwrap_err();
+    let difference = compare(Path::new("cat"), text, 1..20).unwrap().unwrap_err();
     assert!(difference.contains("should be:"), "{difference}");
-    assert!(difference.lines().count() <= 12, "{difference}");
+    assert!(difference.starts_with("difference after 1 lines") && difference.lines().count() <= 12, "{difference}");
+}
+
+/// Every line of a long text is a command, and most calls are accepted.
+#[test]
+fn long_texts() {
+    for seed in 0..34 {
+        let (thousand, most) = (of_lines(seed, 1_000), of_most_lines(seed));
+        assert!(thousand.len() < 46_000 && most.starts_with(&thousand), "{seed}");
+        assert!((65_490..=65_536).contains(&most.len()), "{seed}: {}", most.len());
+        for text in [thousand, most] {
+            let count = text.iter().filter(|&&byte| byte == b'\n').count();
+            let printed = String::from_utf8(lift(&text)).unwrap();
+            assert!(!printed.contains('?'), "{seed}");
+            assert_eq!(printed.lines().count(), count, "{seed}");
+            let sent = printed.lines().filter(|line| line.starts_with('N')).count();
+            assert!(sent > count / 20, "{seed}: {sent} of {count}");
+        }
+    }
 }
 
 /// The texts hold every kind of printed line.
