@@ -1,0 +1,79 @@
+/*
+ * How much stack each C entry takes: a call is made on a painted stack, and the paint that is left is counted. Prints one line an entry, in bytes.
+ * host/README.md has the command; docs/ANSWERS.md has what it said once.
+ */
+#define _GNU_SOURCE
+#include <stdio.h>
+#include <string.h>
+#include <ucontext.h>
+
+#include "uplink.h"
+
+enum { ROOM = 1 << 16, PAINT = 0xA5 };
+enum kind { NONE, START, OPEN, PUT, CLOSE, NEXT, ASK, LEAD, TERM, KINDS };
+
+static const char *const names[KINDS] = {"", "start", "open", "put", "close", "next", "ask", "lead", "term"};
+static unsigned char stack[ROOM];
+static uint8_t state[UPLINK_STATE_LENGTH], answer[64];
+static uint32_t slot, ticket;
+static enum kind asked;
+static ucontext_t here, there;
+
+static uint32_t field(int n)
+{
+    const uint8_t *b = answer + 4 * n;
+    return b[0] | (uint32_t)b[1] << 8 | (uint32_t)b[2] << 16 | (uint32_t)b[3] << 24;
+}
+
+static void call(void)
+{
+    switch (asked) {
+    case START: uplink_start(state, sizeof state); break;
+    case OPEN: uplink_open(state, sizeof state, 5, answer, UPLINK_OPEN_LENGTH); break;
+    case PUT: uplink_put(state, sizeof state, slot, ticket, 100, 7, answer, UPLINK_PUT_LENGTH); break;
+    case CLOSE: uplink_close(state, sizeof state, slot, ticket, answer, UPLINK_CLOSE_LENGTH); break;
+    case NEXT: uplink_next(state, sizeof state, answer, UPLINK_NEXT_LENGTH); break;
+    case ASK: uplink_ask(state, sizeof state, slot, ticket, answer, UPLINK_ASK_LENGTH); break;
+    case LEAD: uplink_lead(1, 2, 3, 4, answer, UPLINK_LEAD_LENGTH); break;
+    case TERM: uplink_term(4, 8, answer, UPLINK_TERM_LENGTH); break;
+    default: break;
+    }
+}
+
+/* Bytes of the painted stack that a call touched. */
+static long touched(enum kind kind)
+{
+    long left = 0;
+    asked = kind;
+    memset(stack, PAINT, ROOM);
+    getcontext(&there);
+    there.uc_stack.ss_sp = stack;
+    there.uc_stack.ss_size = ROOM;
+    there.uc_link = &here;
+    makecontext(&there, call, 0);
+    swapcontext(&here, &there);
+    while (left < ROOM && stack[left] == PAINT)
+        left++;
+    return ROOM - left;
+}
+
+int main(void)
+{
+    const enum kind calls[] = {OPEN, ASK, PUT, NEXT, NEXT, NEXT, NEXT, NEXT, NEXT, NEXT, NEXT, CLOSE, LEAD, TERM, START};
+    long none = touched(NONE), most[KINDS] = {0};
+    uplink_start(state, sizeof state);
+    for (uint32_t channel = 0; channel < 40; channel++) {
+        uplink_open(state, sizeof state, 1 + channel * 61 % 4095, answer, UPLINK_OPEN_LENGTH);
+        slot = field(0), ticket = field(1);
+        for (uint32_t record = 0; record < 8; record++)
+            uplink_put(state, sizeof state, slot, ticket, 1000, record, answer, UPLINK_PUT_LENGTH);
+    }
+    for (size_t i = 0; i < sizeof calls / sizeof *calls; i++) {
+        long bytes = touched(calls[i]) - none;
+        if (bytes > most[calls[i]])
+            most[calls[i]] = bytes;
+    }
+    for (int kind = START; kind < KINDS; kind++)
+        printf("%s %ld\n", names[kind], most[kind]);
+    return 0;
+}
