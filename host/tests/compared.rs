@@ -9,8 +9,8 @@ use host::shapes::SHAPES;
 
 #[test]
 fn all_shapes_in_turn() {
-    match run_seeds(&mut common::engine(), 1, 300_000) {
-        Ok(calls) => assert!(calls >= 300_000),
+    match run_seeds(&mut common::engine(), 1, 2_000_000) {
+        Ok(calls) => assert!(calls >= 2_000_000),
         Err(report) => panic!("{report}"),
     }
 }
