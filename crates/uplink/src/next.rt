@@ -1,11 +1,6 @@
 // Next: the slot is chosen, its head record is sent and paid for, and the visit is settled.
 use super::NextAnswer;
 use super::Refusal;
-use super::choose::Choice;
-use super::choose::Chosen;
-use super::choose::choose;
-use super::settle::oldest;
-use super::settle::settle;
 use memory::heads::Head;
 use memory::heads::load_head;
 use memory::heads::waiting_of;
@@ -13,6 +8,11 @@ use memory::point::load_scan;
 use memory::rows::row_count;
 use soundness::check;
 use std::num::wrapping_sub_u16;
+use visits::choose::Choice;
+use visits::choose::Chosen;
+use visits::choose::choose;
+use visits::settle::oldest;
+use visits::settle::settle;
 ghost use mathlib.Core.Path.{_≡_};
 ghost use mathlib.Core.Bool.{true};
 ghost use Prim.Native.Nat.{_+_, _-_, _*_, _%_, _≤_, _<_};
@@ -21,8 +21,8 @@ ghost use Rattle.rules.specs.Next.{nextCall};
 ghost use Rattle.memory.specs.Memory.{soundBytes, replied, on};
 ghost use Rattle.memory.specs.Reading.{waitingAt, stateOf};
 ghost use Rattle.uplink.specs.Told.{nextTold, leaving};
-ghost use Rattle.uplink.specs.Choice.{Chose};
-ghost use Rattle.uplink.specs.Settle.{paidHead};
+ghost use Rattle.visits.specs.Choice.{Chose};
+ghost use Rattle.visits.specs.Settle.{paidHead};
 
 // "A visit grants 1,024 bytes."
 const GRANTED: u32 = 1024;

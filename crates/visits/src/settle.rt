@@ -1,0 +1,151 @@
+// The record sent leaves its queue, the channel pays for it, and the visit is settled.
+//
+// The scan point with the visit open is stored first, so that the memory is that of a state at every step.
+use memory::heads::Head;
+use memory::heads::store_head;
+use memory::heads::waiting_of;
+use memory::point::Scan;
+use memory::point::store_order;
+use memory::point::store_scan;
+use memory::records::Entry;
+use memory::records::first_of;
+use memory::records::load_record;
+use memory::records::take_record;
+use memory::rows::leave_row;
+use memory::search::order_of_rows;
+ghost use mathlib.Core.Path.{_≡_};
+ghost use mathlib.Core.Bool.{cond};
+ghost use mathlib.Core.List.{List, [], _∷_};
+ghost use mathlib.Core.Option.{none, some};
+ghost use Prim.Native.Nat.{_%_, _^_, _≤_, _<_};
+ghost use lib.Dec.{leb};
+ghost use lib.ListN.{length, getD};
+ghost use Rattle.bits.specs.Slots.{occurs};
+ghost use Rattle.rules.specs.State.{Record, Channel, Scan as ScanPoint, State, at, weights, orderOf, withChannel, withScan};
+ghost use Rattle.rules.specs.Next as rules;
+ghost use Rattle.memory.specs.Layout.{visitNumber, bytesOf};
+ghost use Rattle.memory.specs.Reading.{firstAt, recordAt, rowsAt, stateOf};
+ghost use Rattle.memory.specs.Edits.{rowGone};
+ghost use Rattle.memory.specs.Fits.{Fits};
+ghost use Rattle.memory.specs.Search.{RowsWithin};
+ghost use Rattle.memory.specs.Point.{inNumbers};
+ghost use Rattle.visits.specs.Settle.{inHead, Settles, Paid, orderAgain};
+
+// The oldest record of a slot.
+pub fn oldest(state: &[u8], slot: usize) -> Entry
+    requires { ⌜ (length (now state) ≡ 7040) × (slot < 64) × (firstAt (now state) slot < 1024) ⌝ }
+    ensures { λ r. ⌜ (r .size ≡ recordAt (now (state .entry)) (firstAt (now (state .entry)) slot) .size) × (r .reference ≡ recordAt (now (state .entry)) (firstAt (now (state .entry)) slot) .reference) ⌝ }
+{
+    let place = first_of(state, slot);
+    load_record(state, place)
+}
+
+// The oldest record of the slot leaves, and the visit is settled by what still waits. The head has paid, the scan point has the visit open.
+pub fn settle(state: &mut [u8], slot: usize, head: Head, scan: Scan)
+    requires { ⌜ Settles (now state) slot head scan ⌝ }
+    ensures { λ _. ⌜ ((z : Settles (now (state .entry)) slot head scan) → now (state .exit) ≡ bytesOf (rules.settled (z .rest) (withScan (z .before) (z .point)) slot (z .channel))) ⌝ }
+{
+    store_scan(state, scan);
+    take_record(state, slot);
+    if waiting_of(state, slot) == 0 {
+        row_left(state, slot, head, scan);
+        return;
+    }
+    row_stays(state, slot, head, scan);
+}
+
+// "If no record is left, the row leaves, its deficit is 0, the visit ends, a closing slot is freed, the order is worked out again and P becomes P mod 2^k."
+fn row_left(state: &mut [u8], slot: usize, head: Head, scan: Scan)
+    requires { ⌜ ((z : Paid (now state) slot head scan) × (z .channel .waiting ≡ [])) ⌝ }
+    ensures { λ _. ⌜ ((z : Paid (now (state .entry)) slot head scan) → z .channel .waiting ≡ [] → now (state .exit) ≡ bytesOf (rules.rowLeft (z .state) slot (z .channel))) ⌝ }
+{
+    row_gone(state, slot, head);
+    order_again(state, scan);
+}
+
+// The row leaves, and its channel is emptied.
+fn row_gone(state: &mut [u8], slot: usize, head: Head)
+    requires { ⌜ (length (now state) ≡ 7040) × (slot < 64) × (getD (now state) 832 0 ≤ 64) × (1 ≤ occurs slot (rowsAt (now state))) ⌝ }
+    ensures { λ _. ⌜ ((s : State) (c : Channel) → Fits s → now (state .entry) ≡ bytesOf s → occurs slot (s .scan .toVisit) ≡ 0 → head ≡ inHead c → at (s .channels) slot .waiting ≡ []
+        → now (state .exit) ≡ bytesOf (withChannel (rowGone s slot) slot (rules.emptied (c .kind) c))) ⌝ }
+{
+    let left = emptied(head);
+    leave_row(state, slot);
+    store_head(state, slot, left);
+}
+
+// "its deficit is 0", and a closing slot is freed: it keeps its ticket and nothing else.
+fn emptied(head: Head) -> Head
+    ensures { λ r. ⌜ (r .kind ≤ 2) × ((c : Channel) → head ≡ inHead c → r ≡ inHead (rules.emptied (c .kind) c)) ⌝ }
+{
+    if head.kind == 1 {
+        return Head {
+            kind: 1,
+            ticket: head.ticket,
+            weight: head.weight,
+            deficit: 0,
+            serial: head.serial,
+        };
+    }
+    Head {
+        kind: 0,
+        ticket: head.ticket,
+        weight: 0,
+        deficit: 0,
+        serial: 0,
+    }
+}
+
+// "the order is worked out again and P becomes P mod 2^k", and the visit ends.
+fn order_again(state: &mut [u8], scan: Scan)
+    requires { ⌜ RowsWithin (now state) × (orderOf (weights (stateOf (now state) .channels)) (stateOf (now state) .rows) ≤ 12) ⌝ }
+    ensures { λ _. ⌜ ((s : State) (p : ScanPoint) → Fits s → now (state .entry) ≡ bytesOf s → scan ≡ inNumbers p → now (state .exit) ≡ bytesOf (orderAgain s p)) ⌝ }
+{
+    let order = order_of_rows(state);
+    let position = position_left(scan.position, order);
+    let left = Scan {
+        position,
+        column: scan.column,
+        mask: scan.mask,
+        visit: 0,
+    };
+    store_order(state, order as u8);
+    store_scan(state, left);
+}
+
+// "P becomes P mod 2^k".
+fn position_left(position: u16, order: u32) -> u16
+    requires { ⌜ order ≤ 12 ⌝ }
+    ensures { λ r. ⌜ r ≡ position % 2 ^ order ⌝ }
+{
+    position % (1u16 << order)
+}
+
+// "Otherwise the visit stays open exactly if the new head's length is at most the deficit."
+fn row_stays(state: &mut [u8], slot: usize, head: Head, scan: Scan)
+    requires { ⌜ ((z : Paid (now state) slot head scan) × (0 < length (z .channel .waiting))) ⌝ }
+    ensures { λ _. ⌜ ((z : Paid (now (state .entry)) slot head scan) (h : Record) (rest : List Record) → z .channel .waiting ≡ h ∷ rest
+        → now (state .exit) ≡ bytesOf (rules.rowStays (z .state) slot h (z .channel))) ⌝ }
+{
+    let next = oldest(state, slot);
+    let visit = visit_left(slot, next.size, head.deficit);
+    let left = Scan {
+        position: scan.position,
+        column: scan.column,
+        mask: scan.mask,
+        visit,
+    };
+    store_head(state, slot, head);
+    store_scan(state, left);
+}
+
+// The number of the visit that stays open: one more than the slot, and 0 for none.
+fn visit_left(slot: usize, size: u16, deficit: u16) -> u8
+    requires { ⌜ slot < 64 ⌝ }
+    ensures { λ r. ⌜ r ≡ visitNumber (cond (leb size deficit) (some slot) none) ⌝ }
+{
+    if size <= deficit {
+        return slot as u8 + 1;
+    }
+    0
+}
