@@ -49,7 +49,9 @@ fn links_lead_to_what_they_name() {
                 wrong.push(format!("{}: no file {target}", document.display()));
             } else if place.is_file() && place.extension().is_some_and(|kind| kind == "antt" || kind == "rt") {
                 let cited = fs::read_to_string(&place).unwrap();
-                wrong.extend(names(shown).filter(|name| !cited.contains(name)).map(|name| format!("{}: {target} has no {name}", document.display())));
+                wrong.extend(
+                    names(shown).filter(|name| !cited.contains(name)).map(|name| format!("{}: {target} has no {name}", document.display())),
+                );
             }
         }
     }
