@@ -59,7 +59,7 @@ fn links_lead_to_what_they_name() {
     assert!(count > 60, "only {count} links were found");
 }
 
-/// In the last column of a table whose head ends in "Tried by", each word in backquotes is an edit, `crate/edit`.
+/// In the last column of a table whose head ends in "Tried by", each word in backquotes is an edit: `crate/edit`, or `slips/edit` in host/slips.
 #[test]
 fn edits_that_are_named_exist() {
     let text = fs::read_to_string(root().join("docs/PROMISES.md")).unwrap();
@@ -73,7 +73,8 @@ fn edits_that_are_named_exist() {
         } else if tried {
             for name in cells.last().into_iter().flat_map(|cell| cell.split('`').skip(1).step_by(2)) {
                 let (krate, edit) = name.split_once('/').unwrap_or_else(|| panic!("{name}: write it as crate/edit"));
-                let file = root().join("crates").join(krate).join("must-fail").join(format!("{edit}.edit"));
+                let folder = if krate == "slips" { root().join("host/slips") } else { root().join("crates").join(krate).join("must-fail") };
+                let file = folder.join(format!("{edit}.edit"));
                 assert!(file.is_file(), "{name}: no file {}", file.display());
                 count += 1;
             }
