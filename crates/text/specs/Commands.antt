@@ -1,14 +1,13 @@
 -- The commands: how each is written, and what a line asks for. Assumes nothing.
 use mathlib.Core.Path.{_≡_}
 use mathlib.Core.Bool.{cond}
-use mathlib.Core.List.{List, [], _∷_, _++_, map}
+use mathlib.Core.List.{List, [], _∷_, _++_}
 use mathlib.Core.Option.{Option, none, some}
 use Prim.Native.Nat.{ℕ, _≤_}
 use lib.Dec.{eqb}
 use Rattle.rules.specs.Calls.{Call, toOpen, toPut, toClose, toNext, toStart, toAsk}
 use Rattle.text.specs.declared.command.Command.{Command}
 use Rattle.text.specs.declared.command.Command.the-variants as command
-use Rattle.text.specs.Lines.{linesOf}
 use Rattle.text.specs.Digits.{largest, digits, Front, number, nothing, spacedOff}
 
 -- ---- "`O weight`, `P slot ticket length reference`, `C slot ticket`, `N`. One space between"
@@ -72,10 +71,6 @@ commandOf [] = none
 commandOf (c ∷ cs) =
     cond (eqb c 79) (openOf cs)
     (cond (eqb c 80) (putOf cs) (cond (eqb c 67) (closeOf cs) (cond (eqb c 78) (atEnd toNext cs) none)))
-
--- what a text asks for, line by line
-abbrev pub commandsOf : List ℕ → List (Option Call)
-commandsOf s = map commandOf (linesOf s)
 
 -- ---- The call that the code's answer stands for.
 abbrev pub callOf : Command → Option Call
