@@ -1,10 +1,10 @@
--- An entry by its three ways: a buffer of another length, a refusal, an answer given. Assumes nothing.
+-- An entry by its three ways: a buffer of another length, a refusal, an answer given.
 use Prim.Native.Nat.{ℕ}
 use mathlib.Core.Path.{_≡_}
 use mathlib.Core.List.{List}
 use borrow.Author.Tests.{eq-eqb, ne-eqb}
 use lib.ListN.{length, replicate}
-use Rattle.spread.specs.Answer.{unsound, numberOf, Refusal, refused, given}
+use Rattle.answers.specs.Answer.{unsound, numberOf, Refusal, refused, given}
 use Rattle.memory.specs.Memory.{Left}
 use Rattle.uplink.specs.Told.{leaving}
 use Rattle.driver.specs.Entered.{entry, entered}

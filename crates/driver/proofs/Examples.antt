@@ -1,9 +1,9 @@
--- Bytes as a driver's author sees them, each by computing. Assumes nothing.
+-- Bytes as a driver's author sees them, each by computing.
 use mathlib.Core.Path.{_≡_, refl}
 use mathlib.Core.List.{[], _∷_}
 use lib.IntN.{pos, negsuc}
 use lib.ListN.{length, replicate}
-use Rattle.spread.specs.Answer.{noTerm, refused, given}
+use Rattle.answers.specs.Answer.{noTerm, refused, given}
 use Rattle.rules.specs.Calls.{Opened, Taken, Closed, Asked}
 use Rattle.rules.specs.Next.{Sent}
 use Rattle.driver.specs.Words.{lowFirst, words}

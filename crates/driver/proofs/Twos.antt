@@ -1,4 +1,4 @@
--- Two's complement by a test and three operations that fit: laws of one signed number. Assumes nothing.
+-- Two's complement by a test and three operations that fit: laws of one signed number.
 use mathlib.Core.Path.{_≡_, refl, sym, ap, _∙_, subst, subst⁻¹}
 use mathlib.Core.Bool.{true, false}
 use Prim.Native.Nat.{ℕ, zero, suc, zero-le, _+_, _^_, _<_}

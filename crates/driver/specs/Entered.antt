@@ -1,11 +1,11 @@
--- What an entry for C does: the number sent back, and the bytes of both lent buffers. Assumes nothing.
+-- What an entry for C does: the number sent back, and the bytes of both lent buffers.
 use Prim.Native.Nat.{ℕ}
 use mathlib.Core.Bool.{cond}
 use mathlib.Core.List.{List, [], _∷_}
 use lib.Dec.{eqb}
 use lib.ListN.{length, replicate}
 use lib.IntN.{ℤ}
-use Rattle.spread.specs.Answer.{unsound, numberOf, Answer, refused, given, number}
+use Rattle.answers.specs.Answer.{unsound, numberOf, Answer, refused, given, number}
 use Rattle.rules.specs.Calls.{Opened, Taken, Closed, Asked}
 use Rattle.rules.specs.Next.{Sent}
 use Rattle.memory.specs.Memory.{Left}

@@ -1,4 +1,4 @@
--- Numbers as the answer buffers hold them. Assumes nothing.
+-- Numbers as the answer buffers hold them.
 use Prim.Native.Nat.{ℕ, zero, suc, _-_, _/_, _%_, _^_}
 use mathlib.Core.List.{List, [], _∷_, _++_}
 use lib.IntN.{ℤ, pos, negsuc}

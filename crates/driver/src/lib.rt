@@ -3,10 +3,11 @@
 // An entry is lent the state and an answer buffer. It asks for the buffer's length, calls the proved function of the same name, and puts what that
 // answers into the buffer and the number. One contract for all, without a `requires`: the number, the state left and the buffer left are what `entered`
 // says of the rules' own call. `rt staticlib driver` exports only this crate's functions, which is why they stand by themselves.
-use answers::bits_of;
-use answers::give;
-use answers::refuse;
-use octets::clear::clear;
+use answers::number_of;
+use fields::bits_of;
+use fields::give;
+use fields::refuse;
+use fields::wrong_length;
 use octets::low_first::write_u64;
 use spread::LeadAnswer;
 use spread::TermAnswer;
@@ -24,14 +25,7 @@ ghost use Rattle.rules.specs.Next.{nextCall};
 ghost use Rattle.memory.specs.Memory.{on, startOn};
 ghost use Rattle.driver.specs.Entered.{entry, entered, stateless, startBytes, openBytes, putBytes, closeBytes, nextBytes, askBytes, termBytes, leadBytes};
 
-pub mod answers; // answers.rt: numbers and fields
-
-// The numbers of an answer buffer of another length, of a weight out of range and of a term that there is none of.
-const UNSOUND: u32 = 10;
-
-const BAD_WEIGHT: u32 = 6;
-
-const NO_TERM: u32 = 11;
+pub mod fields; // fields.rt: numbers and fields
 
 // Makes the state fresh. It has no answer buffer.
 #[no_mangle]
@@ -40,7 +34,7 @@ pub extern "C" fn uplink_start(state: &mut [u8]) -> u32
 {
     match uplink::open::start(state) {
         StartAnswer::Started => 0,
-        StartAnswer::Refused(why) => uplink::number_of(why),
+        StartAnswer::Refused(why) => number_of(why),
     }
 }
 
@@ -50,7 +44,7 @@ pub extern "C" fn uplink_open(state: &mut [u8], weight: u32, answer: &mut [u8]) 
     ensures { λ r. ⌜ entry r (now (state .exit)) (now (answer .exit)) ≡ entered 8 openBytes (on (openCall weight) (now (state .entry))) (now (state .entry)) (now (answer .entry)) ⌝ }
 {
     if answer.len() != 8 {
-        return UNSOUND;
+        return wrong_length();
     }
     match uplink::open::open(state, weight) {
         OpenAnswer::Opened { slot, ticket } => {
@@ -74,7 +68,7 @@ pub extern "C" fn uplink_put(
     ensures { λ r. ⌜ entry r (now (state .exit)) (now (answer .exit)) ≡ entered 8 putBytes (on (putCall slot ticket length reference) (now (state .entry))) (now (state .entry)) (now (answer .entry)) ⌝ }
 {
     if answer.len() != 8 {
-        return UNSOUND;
+        return wrong_length();
     }
     match uplink::put::put(state, slot, ticket, length, reference) {
         PutAnswer::Taken { serial, waiting } => {
@@ -91,7 +85,7 @@ pub extern "C" fn uplink_close(state: &mut [u8], slot: u32, ticket: u32, answer:
     ensures { λ r. ⌜ entry r (now (state .exit)) (now (answer .exit)) ≡ entered 4 closeBytes (on (closeCall slot ticket) (now (state .entry))) (now (state .entry)) (now (answer .entry)) ⌝ }
 {
     if answer.len() != 4 {
-        return UNSOUND;
+        return wrong_length();
     }
     match uplink::close::close(state, slot, ticket) {
         CloseAnswer::Closed(freed) => {
@@ -108,7 +102,7 @@ pub extern "C" fn uplink_next(state: &mut [u8], answer: &mut [u8]) -> u32
     ensures { λ r. ⌜ entry r (now (state .exit)) (now (answer .exit)) ≡ entered 28 nextBytes (on nextCall (now (state .entry))) (now (state .entry)) (now (answer .entry)) ⌝ }
 {
     if answer.len() != 28 {
-        return UNSOUND;
+        return wrong_length();
     }
     match uplink::next::next(state) {
         NextAnswer::Sent {
@@ -141,7 +135,7 @@ pub extern "C" fn uplink_ask(state: &[u8], slot: u32, ticket: u32, answer: &mut 
     ensures { λ r. ⌜ entry r (now (state .entry)) (now (answer .exit)) ≡ entered 16 askBytes (on (askCall slot ticket) (now (state .entry))) (now (state .entry)) (now (answer .entry)) ⌝ }
 {
     if answer.len() != 16 {
-        return UNSOUND;
+        return wrong_length();
     }
     match uplink::ask::ask(state, slot, ticket) {
         AskAnswer::Asked {
@@ -163,17 +157,14 @@ pub extern "C" fn uplink_term(order: u32, position: u32, answer: &mut [u8]) -> u
     ensures { λ r. ⌜ entry r [] (now (answer .exit)) ≡ entered 4 termBytes (stateless (termCall order position)) [] (now (answer .entry)) ⌝ }
 {
     if answer.len() != 4 {
-        return UNSOUND;
+        return wrong_length();
     }
     match spread::term(order, position) {
         TermAnswer::Term(term) => {
             let fields = [term];
             give(answer, &fields)
         }
-        TermAnswer::Refused => {
-            clear(answer);
-            NO_TERM
-        }
+        TermAnswer::Refused(why) => refuse(answer, why),
     }
 }
 
@@ -183,16 +174,13 @@ pub extern "C" fn uplink_lead(w1: u32, v1: u32, w2: u32, v2: u32, answer: &mut [
     ensures { λ r. ⌜ entry r [] (now (answer .exit)) ≡ entered 8 leadBytes (stateless (leadCall w1 v1 w2 v2)) [] (now (answer .entry)) ⌝ }
 {
     if answer.len() != 8 {
-        return UNSOUND;
+        return wrong_length();
     }
     match spread::lead(w1, v1, w2, v2) {
         LeadAnswer::Lead(lead) => {
             write_u64(answer, 0, 1, bits_of(lead));
             0
         }
-        LeadAnswer::Refused => {
-            clear(answer);
-            BAD_WEIGHT
-        }
+        LeadAnswer::Refused(why) => refuse(answer, why),
     }
 }

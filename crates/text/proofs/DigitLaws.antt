@@ -1,4 +1,4 @@
--- The decimal of n: below ten its one digit, else that of n / 10 and one digit more. Assumes nothing.
+-- The decimal of n: below ten its one digit, else that of n / 10 and one digit more.
 use mathlib.Core.Path.{_≡_, refl, sym, ap, _∙_}
 use mathlib.Core.Bool.{Bool, true, false, _&&_}
 use mathlib.Core.List.{List, [], _∷_, _++_}

@@ -1,4 +1,4 @@
--- The line at a place: the bytes up to its end, and the lines of a text one after the other. Assumes nothing.
+-- The line at a place: the bytes up to its end, and the lines of a text one after the other.
 use mathlib.Core.Path.{_≡_, refl, sym, ap, _∙_}
 use mathlib.Core.Bool.{Bool, true, false}
 use mathlib.Core.List.{List, [], _∷_}

@@ -1,4 +1,4 @@
--- A number is read off a text exactly where its decimal stands at the front. Assumes nothing.
+-- A number is read off a text exactly where its decimal stands at the front.
 use mathlib.Core.Path.{_≡_, refl, sym, ap, _∙_}
 use mathlib.Core.Bool.{Bool, true, false, cond}
 use mathlib.Core.List.{List, [], _∷_, _++_, append-assoc}

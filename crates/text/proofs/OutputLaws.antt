@@ -1,4 +1,4 @@
--- The output of lines taken in parts is the parts' outputs, one after the other. Assumes nothing.
+-- The output of lines taken in parts is the parts' outputs, one after the other.
 use mathlib.Core.Path.{_≡_, refl, sym, ap, _∙_}
 use mathlib.Core.List.{List, [], _∷_, _++_, append-assoc, append-nil}
 use Prim.Native.Nat.{ℕ, _≤_, _<_}

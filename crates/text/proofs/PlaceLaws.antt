@@ -1,4 +1,4 @@
--- Reading at a place of a text: what is left after a number is the text from the place after it on. Assumes nothing.
+-- Reading at a place of a text: what is left after a number is the text from the place after it on.
 use mathlib.Core.Path.{_≡_, refl, sym, ap, subst, _∙_}
 use mathlib.Core.Bool.{true, false}
 use mathlib.Core.List.{List, _∷_, _++_, append-assoc}

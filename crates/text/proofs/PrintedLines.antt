@@ -1,4 +1,4 @@
--- "Each line prints one": the output has as many lines as the text. Assumes nothing.
+-- "Each line prints one": the output has as many lines as the text.
 use mathlib.Core.Path.{_≡_, refl, sym, ap, subst, _∙_}
 use mathlib.Core.Bool.{false}
 use mathlib.Core.List.{List, [], _∷_, _++_, append-assoc}
@@ -8,7 +8,7 @@ use native.Mathlib.Omega.{arith}
 use lib.Dec.{eqb}
 use lib.ListN.{length}
 use borrow.Author.Tests.{ne-eqb}
-use Rattle.spread.specs.Answer.{numberOf, Answer, refused, given}
+use Rattle.answers.specs.Answer.{numberOf, Answer, refused, given}
 use Rattle.rules.specs.Next.{nextCall}
 use Rattle.rules.specs.Calls.{openCall, putCall, closeCall, Call, toOpen, toPut, toClose, toNext, toStart, toAsk}
 use Rattle.memory.specs.Memory.{on}

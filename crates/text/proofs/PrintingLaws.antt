@@ -1,11 +1,11 @@
--- A line of an answer is short, and says what the call left. Assumes nothing.
+-- A line of an answer is short, and says what the call left.
 use mathlib.Core.Path.{_≡_, ap}
 use mathlib.Core.List.{List, [], _∷_}
 use Prim.Native.Nat.{ℕ, zero, suc, _+_, _^_, _≤_, _<_}
 use native.Mathlib.Omega.{arith}
 use lib.Dec.{lit<}
 use lib.ListN.{length, getD}
-use Rattle.spread.specs.Answer.{Refusal, noSlot, notPresent, atClosing, badLength, full, badWeight, noneFree, noneWaits, noRow, unsound, noTerm, numberOf, Answer}
+use Rattle.answers.specs.Answer.{Refusal, noSlot, notPresent, atClosing, badLength, full, badWeight, noneFree, noneWaits, noRow, unsound, noTerm, numberOf, Answer}
 use Rattle.memory.specs.Memory.{Left}
 use Rattle.uplink.specs.Told.{leaving}
 use Rattle.text.specs.Writing.{written, answerLine}

@@ -1,4 +1,4 @@
--- Lines of document 01 and lines of other forms, read. Assumes nothing.
+-- Lines of document 01 and lines of other forms, read.
 use mathlib.Core.Path.{_≡_, refl}
 use mathlib.Core.List.{[], _∷_}
 use mathlib.Core.Option.{none, some}

@@ -1,5 +1,5 @@
 -- The program prints what the rules say: on the memory of a sound state each line's answer is the rules' own, and the memory left is the next state's.
--- With it document 01's listing is computed on states, whole. Assumes nothing.
+-- With it document 01's listing is computed on states, whole.
 use mathlib.Core.Path.{_≡_, refl, sym, ap, ap₂, _∙_}
 use mathlib.Core.List.{List, [], _∷_, _++_}
 use mathlib.Core.Option.{Option, none, some}
@@ -12,7 +12,7 @@ use Rattle.bits.specs.Order.{order}
 use Rattle.bits.specs.Trailing.{trailing}
 use Rattle.spread.specs.Sequence.{term}
 use Rattle.spread.specs.Visits.{columnAt}
-use Rattle.spread.specs.Answer.{numberOf, refused, given}
+use Rattle.answers.specs.Answer.{numberOf, refused, given}
 use Rattle.rules.specs.State.{State, fresh, cost, orderOf, columnOf}
 use Rattle.rules.specs.Reply.{Reply, after}
 use Rattle.rules.specs.Next.{scanning, nextCall}

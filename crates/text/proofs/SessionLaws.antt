@@ -1,4 +1,4 @@
--- A session goes on by one line: what was answered so far, and one more. Assumes nothing.
+-- A session goes on by one line: what was answered so far, and one more.
 use mathlib.Core.Path.{_≡_, refl, sym, ap, _∙_}
 use mathlib.Core.List.{List, [], _∷_, _++_, append-assoc}
 use Prim.Native.Nat.{ℕ, zero-le, _+_, _-_, _≤_, _<_}

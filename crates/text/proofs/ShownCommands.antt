@@ -1,4 +1,4 @@
--- The commands read are exactly the lines of the four forms: each number is read where its decimal stands, and the line ends after the last. Assumes nothing.
+-- The commands read are exactly the lines of the four forms: each number is read where its decimal stands, and the line ends after the last.
 use mathlib.Core.Path.{_≡_, refl, sym, ap, subst, _∙_}
 use mathlib.Core.Bool.{Bool, true, false, cond}
 use mathlib.Core.List.{List, [], _∷_, _++_}

@@ -1,4 +1,4 @@
--- Numbers written one after the other, each after a space. Assumes nothing.
+-- Numbers written one after the other, each after a space.
 use mathlib.Core.Path.{_≡_, refl, sym, ap, _∙_}
 use mathlib.Core.List.{List, [], _∷_, _++_, append-assoc, append-nil}
 use Prim.Native.Nat.{ℕ, suc, zero-le, _+_, _*_, _^_, _≤_, _<_}

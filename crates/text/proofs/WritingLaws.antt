@@ -1,4 +1,4 @@
--- Bytes written one after the other are written together. Assumes nothing.
+-- Bytes written one after the other are written together.
 use mathlib.Core.Path.{_≡_, sym, ap, _∙_}
 use mathlib.Core.List.{List, [], _∷_, _++_, append-assoc}
 use Prim.Native.Nat.{ℕ, _+_, _≤_, _<_}

@@ -1,4 +1,4 @@
--- What the command program prints: the line of each answer, the lines of a text, and the whole output. Assumes nothing.
+-- What the command program prints: the line of each answer, the lines of a text, and the whole output.
 use mathlib.Core.Path.{_≡_}
 use mathlib.Core.Bool.{cond}
 use mathlib.Core.List.{List, [], _∷_, _++_}
@@ -6,7 +6,7 @@ use mathlib.Core.Option.{Option, none, some}
 use Prim.Native.Nat.{ℕ, _+_, _≤_, _<_}
 use lib.Dec.{ltb}
 use lib.ListN.{length, take, drop, replicate}
-use Rattle.spread.specs.Answer.{numberOf, Answer, refused, given}
+use Rattle.answers.specs.Answer.{numberOf, Answer, refused, given}
 use Rattle.rules.specs.Next.{Sent, nextCall}
 use Rattle.rules.specs.Calls.{Opened, Taken, Closed, openCall, putCall, closeCall, Call, toOpen, toPut, toClose, toNext, toStart, toAsk}
 use Rattle.memory.specs.Layout.{memoryLength}

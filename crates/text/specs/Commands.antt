@@ -1,4 +1,4 @@
--- The commands: how each is written, and what a line asks for. Assumes nothing.
+-- The commands: how each is written, and what a line asks for.
 use mathlib.Core.Path.{_≡_}
 use mathlib.Core.Bool.{cond}
 use mathlib.Core.List.{List, [], _∷_, _++_}

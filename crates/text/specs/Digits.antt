@@ -1,4 +1,4 @@
--- Plain decimals: how a number is written, and how one is read off the front of a text. Assumes nothing.
+-- Plain decimals: how a number is written, and how one is read off the front of a text.
 use mathlib.Core.Bool.{Bool, cond, _&&_}
 use mathlib.Core.List.{List, [], _∷_, _++_}
 use Prim.Native.Nat.{ℕ, zero, suc, _+_, _*_, _-_, _/_, _%_}

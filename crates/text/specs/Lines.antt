@@ -1,4 +1,4 @@
--- The lines of a text: the bytes between line feeds. Assumes nothing.
+-- The lines of a text: the bytes between line feeds.
 use mathlib.Core.Bool.{cond}
 use mathlib.Core.List.{List, [], _∷_}
 use Prim.Native.Nat.{ℕ, _+_, min}

@@ -1,4 +1,4 @@
--- A number at a place of a text, as the code answers it: with the place after it. Assumes nothing.
+-- A number at a place of a text, as the code answers it: with the place after it.
 use mathlib.Core.List.{List}
 use Prim.Native.Nat.{ℕ, _-_}
 use lib.ListN.{length, drop}

@@ -1,4 +1,4 @@
--- What the code answers of the line at a place. Assumes nothing.
+-- What the code answers of the line at a place.
 use mathlib.Core.Path.{_≡_}
 use mathlib.Core.List.{List}
 use Prim.Native.Nat.{ℕ}

@@ -1,4 +1,4 @@
--- Bytes written into a text at a place. Assumes nothing.
+-- Bytes written into a text at a place.
 use mathlib.Core.List.{List, [], _∷_, _++_}
 use Prim.Native.Nat.{ℕ, _+_}
 use lib.ListN.{length, take, drop}

@@ -2,19 +2,20 @@
 ghost use mathlib.Core.Path.{_≡_};
 ghost use Prim.Native.Nat.{_+_, _≤_};
 ghost use lib.ListN.{length};
-ghost use Rattle.spread.specs.Answer.{numberOf};
-ghost use Rattle.uplink.specs.Told.{refusalTold, openTold, putTold, closeTold, nextTold};
+ghost use Rattle.answers.specs.Answer.{numberOf};
+ghost use Rattle.answers.specs.Told.{refusalTold};
+ghost use Rattle.uplink.specs.Told.{openTold, putTold, closeTold, nextTold};
 ghost use Rattle.text.specs.Answers.{openedFields, takenFields, closedFields, sentFields, said, unknown, widest, Prints};
 ghost use mathlib.Core.List.{[], _∷_};
 ghost use Rattle.text.specs.Writing.{answerLine};
 use super::writing::put_byte;
 use super::writing::put_line;
+use answers::Refusal;
+use answers::number_of;
 use uplink::CloseAnswer;
 use uplink::NextAnswer;
 use uplink::OpenAnswer;
 use uplink::PutAnswer;
-use uplink::Refusal;
-use uplink::number_of;
 
 // `R` and the number.
 fn print_refusal(out: &mut [u8], at: usize, why: Refusal) -> usize

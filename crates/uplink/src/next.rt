@@ -1,6 +1,6 @@
 // Next: the slot is chosen, its head record is sent and paid for, and the visit is settled.
 use super::NextAnswer;
-use super::Refusal;
+use answers::Refusal;
 use memory::heads::Head;
 use memory::heads::load_head;
 use memory::heads::waiting_of;

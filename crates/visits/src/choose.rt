@@ -11,7 +11,7 @@ use spread::TermAnswer;
 ghost use mathlib.Core.Path.{_≡_};
 ghost use mathlib.Core.Bool.{false};
 ghost use Prim.Native.Nat.{_^_, _≤_, _<_};
-ghost use Rattle.bits.specs.Tests.{isEmpty};
+ghost use Rattle.lists.specs.Tests.{isEmpty};
 ghost use Rattle.rules.specs.Next.{nextPosition};
 ghost use Rattle.memory.specs.Reading.{stateOf};
 ghost use Rattle.memory.specs.Search.{RowsWithin, inMask, firstOf};

@@ -20,7 +20,7 @@ ghost use mathlib.Core.Option.{none, some};
 ghost use Prim.Native.Nat.{_%_, _^_, _≤_, _<_};
 ghost use lib.Dec.{leb};
 ghost use lib.ListN.{length, getD};
-ghost use Rattle.bits.specs.Slots.{occurs};
+ghost use Rattle.lists.specs.Slots.{occurs};
 ghost use Rattle.rules.specs.State.{Record, Channel, Scan as ScanPoint, State, at, weights, orderOf, withChannel, withScan};
 ghost use Rattle.rules.specs.Next as rules;
 ghost use Rattle.memory.specs.Layout.{visitNumber, bytesOf};

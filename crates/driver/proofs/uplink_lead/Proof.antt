@@ -1,4 +1,4 @@
--- As every entry; the one field is 8 bytes wide. Assumes nothing.
+-- As every entry; the one field is 8 bytes wide.
 use mir.Syntax.{w64}
 use mir.Facts.{toZ-ofZ}
 use borrow.Author.Needs.{needs}
@@ -10,8 +10,11 @@ use Rattle.driver.proofs.WordsLaws.{put-whole}
 use Rattle.driver.proofs.uplink_lead.Statement.{statement}
 use Rattle.driver.proofs.uplink_lead.Tie as tie
 
+wrong-length-requires : tie.Need-wrong-length-requires
+wrong-length-requires c κs = search needs
+
 returns : tie.Need-returns
-returns c = entered-kept _ _ _ _ _ (c .if1 .taken)
+returns c = rw (c .wrong-length .ensures) (entered-kept _ _ _ _ _ (c .before .if1 .taken))
 
 lead-requires : tie.Need-lead-requires
 lead-requires c κs = search needs
@@ -59,6 +62,7 @@ pub uplink-lead-spec : {M : Type 1} → statement M
 uplink-lead-spec =
     tie.close
     (tie.spec
+    wrong-length-requires
     returns
     lead-requires
     enum-known-lead

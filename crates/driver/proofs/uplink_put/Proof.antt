@@ -1,11 +1,14 @@
--- A buffer of another length keeps all, a refusal has cleared it, and an answer's fields are its words. Assumes nothing.
+-- A buffer of another length keeps all, a refusal has cleared it, and an answer's fields are its words.
 use borrow.Author.Needs.{needs}
 use Rattle.driver.proofs.EnteredLaws.{entered-kept, entered-refused, entered-given}
 use Rattle.driver.proofs.uplink_put.Statement.{statement}
 use Rattle.driver.proofs.uplink_put.Tie as tie
 
+wrong-length-requires : tie.Need-wrong-length-requires
+wrong-length-requires c κs = search needs
+
 returns : tie.Need-returns
-returns c = entered-kept _ _ _ _ _ (c .if1 .taken)
+returns c = rw (c .wrong-length .ensures) (entered-kept _ _ _ _ _ (c .before .if1 .taken))
 
 put-requires : tie.Need-put-requires
 put-requires c κs = search needs
@@ -58,6 +61,7 @@ pub uplink-put-spec : {M : Type 1} → statement M
 uplink-put-spec =
     tie.close
     (tie.spec
+    wrong-length-requires
     returns
     put-requires
     enum-known-serial

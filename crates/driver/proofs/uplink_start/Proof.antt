@@ -1,4 +1,4 @@
--- There is no answer buffer, so its length is right. Assumes nothing.
+-- There is no answer buffer, so its length is right.
 use mathlib.Core.Path.{refl}
 use mathlib.Core.List.{[]}
 use borrow.Author.Needs.{needs}

@@ -1,4 +1,4 @@
--- A buffer of another length keeps all, a refusal has cleared it, and an answer's fields are its words. Assumes nothing.
+-- A buffer of another length keeps all, a refusal has cleared it, and an answer's fields are its words.
 use borrow.Author.Needs.{needs}
 use mathlib.Core.Path.{refl, ap}
 use Rattle.driver.proofs.EnteredLaws.{entered-kept, entered-refused, entered-given}
@@ -6,8 +6,11 @@ use Rattle.driver.specs.Entered.{stateless}
 use Rattle.driver.proofs.uplink_term.Statement.{statement}
 use Rattle.driver.proofs.uplink_term.Tie as tie
 
+wrong-length-requires : tie.Need-wrong-length-requires
+wrong-length-requires c κs = search needs
+
 returns : tie.Need-returns
-returns c = entered-kept _ _ _ _ _ (c .if1 .taken)
+returns c = rw (c .wrong-length .ensures) (entered-kept _ _ _ _ _ (c .before .if1 .taken))
 
 term-requires : tie.Need-term-requires
 term-requires c κs = search needs
@@ -51,6 +54,7 @@ pub uplink-term-spec : {M : Type 1} → statement M
 uplink-term-spec =
     tie.close
     (tie.spec
+    wrong-length-requires
     returns
     term-requires
     enum-known-term

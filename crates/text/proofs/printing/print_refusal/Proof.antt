@@ -1,8 +1,8 @@
 -- The refusal's number goes into one line, which is short.
 use mathlib.Core.List.{[], _∷_}
 use native.Mathlib.Omega.{arith}
-use Rattle.spread.specs.Answer.{numberOf}
-use Rattle.uplink.specs.Told.{refusalTold}
+use Rattle.answers.specs.Answer.{numberOf}
+use Rattle.answers.specs.Told.{refusalTold}
 use Rattle.text.proofs.PrintingLaws.{number-small, answer-room, answer-prints}
 use borrow.Author.Needs.{needs}
 use Rattle.text.proofs.printing.print_refusal.Statement.{statement}

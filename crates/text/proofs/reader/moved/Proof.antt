@@ -1,6 +1,5 @@
 -- `reader::moved` meets its contract: a walk of its MIR, by hand. A struct is made anew of the slice that the one passed holds, and another number.
 -- The struct is Copy: what it owns is had twice, one copy is kept whole for the exit, and the other, with the facts of the number in the place of at's, is what the result owns.
--- Assumes nothing.
 use mathlib.Core.Path.{refl}
 use Prim.Native.Nat.{ℕ, _<_, _^_}
 use mathlib.Core.List.{[], _∷_}

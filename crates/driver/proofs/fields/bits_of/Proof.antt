@@ -1,4 +1,4 @@
--- A number that is not negative is its own bits; -(n + 1) has those of the largest number less n. Assumes nothing.
+-- A number that is not negative is its own bits; -(n + 1) has those of the largest number less n.
 use mathlib.Core.Path.{_≡_, sym, ap, _∙_, subst⁻¹, subst}
 use Prim.Native.Nat.{ℕ, suc, _-_, _<_, _^_}
 use native.Mathlib.Omega.{arith}
@@ -9,8 +9,8 @@ use mir.Syntax.{w64}
 use mir.Val.{Fits, toZ, ofZ}
 use mir.Facts.{toZ-ofZ, fits-ofZ}
 use Rattle.driver.proofs.Twos.{twos-bits, at-least-zero, below-zero, same-bits, sum-fits, neg-fits, neg-is}
-use Rattle.driver.proofs.answers.bits_of.Statement.{statement}
-use Rattle.driver.proofs.answers.bits_of.Tie as tie
+use Rattle.driver.proofs.fields.bits_of.Statement.{statement}
+use Rattle.driver.proofs.fields.bits_of.Tie as tie
 
 -- the number as the machine reads it back, which is the number
 abbrev u : (c : tie.Start) → ℤ

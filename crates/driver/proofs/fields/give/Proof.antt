@@ -1,4 +1,4 @@
--- The fields before i are written, and the rest of the buffer is as it was. Assumes nothing.
+-- The fields before i are written, and the rest of the buffer is as it was.
 use Prim.Native.Nat.{_-_, _≤_, _<_}
 use mathlib.Core.Path.{_≡_, refl, _∙_}
 use native.Mathlib.Omega.{arith}
@@ -6,8 +6,8 @@ use borrow.Author.Needs.{needs}
 use denote.Ref.{now}
 use lib.ListN.{length}
 use Rattle.driver.proofs.WordsLaws.{writing, writing-none, writing-next, written}
-use Rattle.driver.proofs.answers.give.Statement.{statement}
-use Rattle.driver.proofs.answers.give.Tie as tie
+use Rattle.driver.proofs.fields.give.Statement.{statement}
+use Rattle.driver.proofs.fields.give.Tie as tie
 
 abbrev Inv-loop : tie.InvT-loop
 Inv-loop answer₀ fields i₀ answer i = (i ≤ length fields) × (length answer ≡ length answer₀) × (answer ≡ writing fields i answer₀)

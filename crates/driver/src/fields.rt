@@ -1,14 +1,21 @@
 // What comes back in C: a refusal's number, and the fields of an answer in the lent buffer.
+use answers::Refusal;
+use answers::number_of;
 use octets::clear::clear;
 use octets::low_first::write_u32;
-use uplink::Refusal;
-use uplink::number_of;
 ghost use mathlib.Core.Path.{_≡_};
 ghost use Prim.Native.Nat.{_*_};
 ghost use lib.ListN.{length, replicate};
-ghost use Rattle.spread.specs.Answer.{numberOf};
-ghost use Rattle.uplink.specs.Told.{refusalTold};
+ghost use Rattle.answers.specs.Answer.{unsound, numberOf};
+ghost use Rattle.answers.specs.Told.{refusalTold};
 ghost use Rattle.driver.specs.Words.{words, twos};
+
+// The number of an answer buffer of another length: "One of another length gets 10 before all else".
+pub fn wrong_length() -> u32
+    ensures { λ r. ⌜ r ≡ numberOf unsound ⌝ }
+{
+    number_of(Refusal::Unsound)
+}
 
 // A refusal: its number, and an answer without fields.
 pub fn refuse(answer: &mut [u8], why: Refusal) -> u32

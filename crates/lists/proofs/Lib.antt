@@ -1,0 +1,4 @@
+pub mod TestLaws
+pub mod SlotsLaws
+pub mod OnceLaws
+pub mod TabLaws
