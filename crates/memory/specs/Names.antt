@@ -1,0 +1,31 @@
+-- The fields of the lent memory, by name. (Layout.antt is the table that says where each stands.)
+use Prim.Native.Nat.{ℕ}
+
+pub data Name : Type 0 where
+  -- a number for each slot, or row
+  rows kind waiting ticket weight deficit serial : Name
+  -- one number
+  rowCount order position column mask visit : Name
+  -- bytes that stand for nothing
+  nothing : Name
+  -- a number for each waiting record
+  size reference : Name
+
+-- a number for each name, by which names are told apart; which number it is says nothing
+abbrev pub code : Name → ℕ
+code rows = 0
+code kind = 1
+code waiting = 2
+code ticket = 3
+code weight = 4
+code deficit = 5
+code serial = 6
+code rowCount = 7
+code order = 8
+code position = 9
+code column = 10
+code mask = 11
+code visit = 12
+code nothing = 13
+code size = 14
+code reference = 15
