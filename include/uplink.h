@@ -51,20 +51,20 @@ extern "C" {
 #define UPLINK_HEAVIEST 4095
 #define UPLINK_COLUMNS 12
 
-/* Lengths of records are 1 to UPLINK_LONGEST; a channel has room for UPLINK_ROOM of them; so many references there are. */
+/* Lengths of records are 1 to UPLINK_LONGEST bytes. At most UPLINK_ROOM records wait in a channel. */
 #define UPLINK_LONGEST 1024
 #define UPLINK_ROOM 16
-#define UPLINK_REFERENCES 4294967296
 
-/* Serials are 0 to UPLINK_SERIALS - 1, and then 0 again. */
+/* References are 0 to UPLINK_REFERENCES - 1. Serials are 0 to UPLINK_SERIALS - 1, and then 0 again. */
+#define UPLINK_REFERENCES 4294967296
 #define UPLINK_SERIALS 65536
 
-/* A visit grants so many bytes. The deficit is at most UPLINK_VISIT_LIMIT in an open visit, else UPLINK_REST_LIMIT. */
+/* Bytes that a visit grants, and the largest deficit in an open visit and at rest. */
 #define UPLINK_GRANTED 1024
 #define UPLINK_VISIT_LIMIT 2046
 #define UPLINK_REST_LIMIT 1023
 
-/* Terms that one uplink_next takes, at the most. */
+/* One uplink_next takes at most UPLINK_MOST_TERMS terms. */
 #define UPLINK_MOST_TERMS 2
 
 /* The numbers sent back. uplink_text has them in words. */
@@ -86,20 +86,23 @@ enum uplink_refusal {
 /* Makes the lent memory the fresh state: all slots free, all zeros. Refused only for its length. */
 uint32_t uplink_start(uint8_t *state, size_t state_length);
 
-/* Opens a channel of a weight. Answer: slot, ticket. */
+/* Opens a channel of a weight. Answer: slot, ticket, which together name it from now on. */
 uint32_t uplink_open(uint8_t *state, size_t state_length, uint32_t weight, uint8_t *answer, size_t answer_length);
 
-/* Adds a record of a length, with any reference. Answer: serial, number now waiting. */
+/*
+ * Adds a record of a length. The reference is any number by which the driver finds the record's bytes again; they stay
+ * with the driver. Answer: serial, number now waiting.
+ */
 uint32_t uplink_put(uint8_t *state, size_t state_length, uint32_t slot, uint32_t ticket, uint32_t length,
                     uint32_t reference, uint8_t *answer, size_t answer_length);
 
-/* Closes a channel. Answer: 1 if its slot is free at once, 0 if its records are sent first. */
+/* Closes a channel. Answer: 1 if its slot is free at once, 0 if its records are sent first, by uplink_next as ever. */
 uint32_t uplink_close(uint8_t *state, size_t state_length, uint32_t slot, uint32_t ticket, uint8_t *answer,
                       size_t answer_length);
 
 /*
- * Takes the next record to send off its queue. Answer: slot, ticket, length, reference, serial, 1 if this send started a
- * visit else 0, terms taken (0, 1 or 2).
+ * Takes the next record to send off its queue, for good. Answer: slot, ticket, length, reference, serial, 1 if this
+ * send started a visit else 0, terms taken (0, 1 or 2).
  */
 uint32_t uplink_next(uint8_t *state, size_t state_length, uint8_t *answer, size_t answer_length);
 
@@ -109,8 +112,9 @@ uint32_t uplink_ask(const uint8_t *state, size_t state_length, uint32_t slot, ui
 
 /*
  * The lead of the second channel over the first, w1 * v2 - w2 * v1, of their weights w1, w2 and visit counts v1, v2.
- * Positive: the second has had more visits for its weight than the first, which is behind. Negative: the second is
- * behind. 0: they are level. So uplink_lead(1, 1, 1, 0, ..) gives -1. Answer: the lead, 8 bytes.
+ * Positive: the second is ahead, with more visits for its weight, and the first is behind. Negative: the first is ahead
+ * and the second is behind. 0: they are level. So 1, 1, 1, 0 (one visit of the first, none of the second) gives -1.
+ * Answer: the lead, 8 bytes.
  */
 uint32_t uplink_lead(uint32_t w1, uint32_t v1, uint32_t w2, uint32_t v2, uint8_t *answer, size_t answer_length);
 
