@@ -2,36 +2,33 @@
  * A driver's loop, small: boards open channels and hand in records, the radio sends what the scheduler picks, and a board
  * is pulled and pushed back while its old disconnect is still on the way.
  */
+#include <inttypes.h>
 #include <stdio.h>
-#include <string.h>
 
 #include "uplink.h"
 
 static uint8_t state[UPLINK_STATE_LENGTH];
 
-/* Field i of an answer: 4 bytes, lowest first. */
-static uint32_t field(const uint8_t *answer, int i)
-{
-    const uint8_t *b = answer + 4 * i;
-    return b[0] | (uint32_t)b[1] << 8 | (uint32_t)b[2] << 16 | (uint32_t)b[3] << 24;
-}
-
+/* What a driver keeps of a channel. Ticket 0 is nobody's: a call with it is refused. */
 struct channel {
     uint32_t slot, ticket;
 };
 
+static void refused(const char *board, const char *what, uint32_t number)
+{
+    printf("%s: %s refused with %" PRIu32 " (%s)\n", board, what, number, uplink_text(number));
+}
+
 static struct channel open_channel(const char *board, uint32_t weight)
 {
     uint8_t answer[UPLINK_OPEN_LENGTH];
-    struct channel c = {0, 0};
     uint32_t number = uplink_open(state, sizeof state, weight, answer, sizeof answer);
-    if (number == UPLINK_ACCEPTED) {
-        c.slot = field(answer, 0);
-        c.ticket = field(answer, 1);
-        printf("%s: slot %u, ticket %u, weight %u\n", board, c.slot, c.ticket, weight);
-    } else {
-        printf("%s: refused with %u\n", board, number);
-    }
+    /* The fields of a refusal are 0. */
+    struct channel c = {uplink_field(answer, 0), uplink_field(answer, 1)};
+    if (number == UPLINK_ACCEPTED)
+        printf("%s: slot %" PRIu32 ", ticket %" PRIu32 ", weight %" PRIu32 "\n", board, c.slot, c.ticket, weight);
+    else
+        refused(board, "channel", number);
     return c;
 }
 
@@ -40,9 +37,10 @@ static void put_record(const char *board, struct channel c, uint32_t length, uin
     uint8_t answer[UPLINK_PUT_LENGTH];
     uint32_t number = uplink_put(state, sizeof state, c.slot, c.ticket, length, reference, answer, sizeof answer);
     if (number == UPLINK_ACCEPTED)
-        printf("%s: record %u taken, serial %u, %u waiting\n", board, reference, field(answer, 0), field(answer, 1));
+        printf("%s: record %" PRIu32 " taken, serial %" PRIu32 ", %" PRIu32 " waiting\n", board, reference,
+               uplink_field(answer, 0), uplink_field(answer, 1));
     else
-        printf("%s: record %u refused with %u\n", board, reference, number);
+        refused(board, "record", number);
 }
 
 static void close_channel(const char *board, struct channel c)
@@ -50,17 +48,22 @@ static void close_channel(const char *board, struct channel c)
     uint8_t answer[UPLINK_CLOSE_LENGTH];
     uint32_t number = uplink_close(state, sizeof state, c.slot, c.ticket, answer, sizeof answer);
     if (number == UPLINK_ACCEPTED)
-        printf("%s: ticket %u closed, %s\n", board, c.ticket, field(answer, 0) ? "slot free" : "its records are sent first");
+        printf("%s: ticket %" PRIu32 " closed, %s\n", board, c.ticket,
+               uplink_field(answer, 0) ? "slot free" : "its records are sent first");
     else
-        printf("%s: close with ticket %u refused with %u\n", board, c.ticket, number);
+        refused(board, "close", number);
 }
 
 /* Sends until nothing waits; the radio here only prints. */
 static void send_all(void)
 {
     uint8_t a[UPLINK_NEXT_LENGTH];
-    while (uplink_next(state, sizeof state, a, sizeof a) == UPLINK_ACCEPTED)
-        printf("radio: slot %u ticket %u serial %u, record %u of %u bytes\n", field(a, 0), field(a, 1), field(a, 4), field(a, 3), field(a, 2));
+    uint32_t number;
+    while ((number = uplink_next(state, sizeof state, a, sizeof a)) == UPLINK_ACCEPTED)
+        printf("radio: slot %" PRIu32 " ticket %" PRIu32 " serial %" PRIu32 ", record %" PRIu32 " of %" PRIu32 " bytes\n",
+               uplink_field(a, 0), uplink_field(a, 1), uplink_field(a, 4), uplink_field(a, 3), uplink_field(a, 2));
+    if (number != UPLINK_NONE_WAITS)
+        refused("radio", "next", number);
 }
 
 int main(void)
@@ -73,7 +76,8 @@ int main(void)
     drive = open_channel("drive", 8);
     put_record("door", door, 120, 1);
     for (uint32_t i = 0; i < 4; i++)
-        put_record("drive", drive, 1024, 100 + i);
+        put_record("drive", drive, UPLINK_LONGEST, 100 + i);
+    put_record("drive", drive, UPLINK_LONGEST + 1, 104);
     send_all();
 
     /* The door board is pulled: its driver closes the channel, and the disconnect is still on the way. */

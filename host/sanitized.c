@@ -1,9 +1,12 @@
 /*
  * The C entries on memory that ends where nobody may touch the next byte: each call is made three times, on buffers that end at a
- * forbidden page, on buffers that begin behind one, and on buffers of just their length from malloc. Numbers, answers and states
- * must be equal, and a refusal must keep the state. Run as "sanitized [calls] [seed]"; host/README.md has the commands.
+ * forbidden page, on buffers that begin behind one, and on buffers of just their length from malloc, and must do the same each time.
+ * First comes a script whose answers are known, field by field; then calls at random, of which enough must be accepted. A refusal must
+ * be one that the call can give, keep the state and write 0 to every field. Run as "sanitized [calls] [seed]"; host/README.md has the
+ * commands. Exits with 1 for a library that does anything else: refuses.c and keeps.c are two.
  */
 #define _DEFAULT_SOURCE
+#include <inttypes.h>
 #include <stdio.h>
 #include <stdlib.h>
 #include <string.h>
@@ -11,20 +14,40 @@
 
 #include "uplink.h"
 
-enum { PAGE = 4096, ROOM = 2 * PAGE, PLACES = 3, LONGEST = 64 };
+enum { PAGE = 4096, SPACE = 2 * PAGE, PLACES = 3, WIDEST = 64, PAINT = 0xa5 };
+enum kind { START, OPEN, PUT, CLOSE, NEXT, ASK, LEAD, TERM, KINDS };
 
-/* A place to lend buffers from: 0 ends at a forbidden page, 1 begins behind one, 2 is from malloc. */
+static const char *const names[KINDS] = {"start", "open", "put", "close", "next", "ask", "lead", "term"};
+static const size_t right[KINDS] = {0, UPLINK_OPEN_LENGTH, UPLINK_PUT_LENGTH, UPLINK_CLOSE_LENGTH, UPLINK_NEXT_LENGTH, UPLINK_ASK_LENGTH,
+                                    UPLINK_LEAD_LENGTH, UPLINK_TERM_LENGTH};
+
+struct call {
+    enum kind kind;
+    uint32_t numbers[4];
+    size_t state_length, answer_length;
+};
+
+/* What a call leaves. */
+struct left {
+    uint32_t number;
+    uint8_t state[SPACE], answer[WIDEST];
+};
+
+/* ---- The places that buffers are lent from: 0 ends at a forbidden page, 1 begins behind one, 2 is from malloc. */
+
+static uint8_t *rooms[2][2];
+
 static uint8_t *forbidden(void)
 {
-    uint8_t *all = mmap(NULL, ROOM + 2 * PAGE, PROT_NONE, MAP_PRIVATE | MAP_ANONYMOUS, -1, 0);
-    if (all == MAP_FAILED || mprotect(all + PAGE, ROOM, PROT_READ | PROT_WRITE) != 0)
+    uint8_t *all = mmap(NULL, SPACE + 2 * PAGE, PROT_NONE, MAP_PRIVATE | MAP_ANONYMOUS, -1, 0);
+    if (all == MAP_FAILED || mprotect(all + PAGE, SPACE, PROT_READ | PROT_WRITE) != 0)
         exit(2);
     return all + PAGE;
 }
 
-static uint8_t *lent(uint8_t *room, int place, size_t length)
+static uint8_t *lent(int which, int place, size_t length)
 {
-    return place == 0 ? room + ROOM - length : place == 1 ? room : malloc(length);
+    return place == 0 ? rooms[0][which] + SPACE - length : place == 1 ? rooms[1][which] : malloc(length);
 }
 
 static void given_back(uint8_t *bytes, int place)
@@ -32,6 +55,202 @@ static void given_back(uint8_t *bytes, int place)
     if (place == 2)
         free(bytes);
 }
+
+/* ---- A call, and what every call keeps to. */
+
+static uint32_t made(const struct call *c, uint8_t *state, uint8_t *answer)
+{
+    const uint32_t *n = c->numbers;
+    size_t s = c->state_length, a = c->answer_length;
+    switch (c->kind) {
+    case START: return uplink_start(state, s);
+    case OPEN: return uplink_open(state, s, n[0], answer, a);
+    case PUT: return uplink_put(state, s, n[0], n[1], n[2], n[3], answer, a);
+    case CLOSE: return uplink_close(state, s, n[0], n[1], answer, a);
+    case NEXT: return uplink_next(state, s, answer, a);
+    case ASK: return uplink_ask(state, s, n[0], n[1], answer, a);
+    case LEAD: return uplink_lead(n[0], n[1], n[2], n[3], answer, a);
+    default: return uplink_term(n[0], n[1], answer, a);
+    }
+}
+
+static void made_at(int place, const struct call *c, const uint8_t *before, struct left *left)
+{
+    uint8_t *state = lent(0, place, c->state_length), *answer = lent(1, place, c->answer_length);
+    memcpy(state, before, c->state_length);
+    memset(answer, PAINT, c->answer_length);
+    left->number = made(c, state, answer);
+    memcpy(left->state, state, c->state_length);
+    memcpy(left->answer, answer, c->answer_length);
+    given_back(state, place);
+    given_back(answer, place);
+}
+
+/* The numbers that each call can give, by docs/ANSWERS.md, and 0 behind them. No sound state gives 9. */
+static int can_give(enum kind kind, uint32_t number)
+{
+    static const uint32_t numbers[KINDS][7] = {{10}, {10, 6, 7}, {10, 1, 2, 3, 4, 5}, {10, 1, 2, 3}, {10, 8}, {10, 1, 2}, {10, 6}, {10, 11}};
+    for (int i = 0; i < 7; i++)
+        if (numbers[kind][i] == number)
+            return 1;
+    return 0;
+}
+
+static int all_are(uint8_t byte, const uint8_t *bytes, size_t length)
+{
+    for (size_t i = 0; i < length; i++)
+        if (bytes[i] != byte)
+            return 0;
+    return 1;
+}
+
+/* What is wrong with a call, or NULL. */
+static const char *fault(const struct call *c, const uint8_t *before, const struct left *left)
+{
+    int kept = memcmp(left->state, before, c->state_length) == 0, refused = left->number != UPLINK_ACCEPTED;
+    if (!can_give(c->kind, left->number))
+        return "a number that this call never gives";
+    if (c->answer_length != right[c->kind])
+        return left->number != UPLINK_UNSOUND ? "an answer of wrong length is taken"
+               : !kept || !all_are(PAINT, left->answer, c->answer_length) ? "an answer of wrong length, and a buffer is touched"
+                                                                         : NULL;
+    if (c->kind <= ASK && c->state_length != UPLINK_STATE_LENGTH && left->number != UPLINK_UNSOUND)
+        return "a state of wrong length is taken";
+    if (!kept && (refused || c->kind >= ASK))
+        return "the state is changed";
+    if (refused && !all_are(0, left->answer, c->answer_length))
+        return "a refusal leaves a field that is not 0";
+    if (c->kind == START && !refused && !all_are(0, left->state, c->state_length))
+        return "the fresh state is not all zeros";
+    return NULL;
+}
+
+static void stop(const char *why, const struct call *c, uint32_t number, int place)
+{
+    const uint32_t *n = c->numbers;
+    printf("%s: %s(%" PRIu32 ", %" PRIu32 ", %" PRIu32 ", %" PRIu32 ") on a state of %zu bytes and an answer of %zu gave %" PRIu32 " at place %d\n", why,
+           names[c->kind], n[0], n[1], n[2], n[3], c->state_length, c->answer_length, number, place);
+    exit(1);
+}
+
+/* A call at every place. */
+static void everywhere(const struct call *c, const uint8_t *before, struct left *first)
+{
+    static struct left left;
+    for (int place = 0; place < PLACES; place++) {
+        made_at(place, c, before, &left);
+        if (place == 0)
+            *first = left;
+        const char *why = fault(c, before, &left);
+        if (!why && (left.number != first->number || memcmp(left.answer, first->answer, c->answer_length) != 0 ||
+                     memcmp(left.state, first->state, c->state_length) != 0))
+            why = "another outcome than at place 0";
+        if (why)
+            stop(why, c, left.number, place);
+    }
+}
+
+/* ---- The script: the listing of document 01, a board pulled and pushed back, and the edges of the numbers. */
+
+struct step {
+    enum kind kind;
+    uint32_t numbers[4], number, fields[7];
+};
+
+static const struct step script[] = {
+    {START, {0}, 0, {0}},
+    {OPEN, {1}, 0, {0, 1}},
+    {OPEN, {2}, 0, {1, 1}},
+    {PUT, {0, 1, 1024, 7}, 0, {0, 1}},
+    {PUT, {1, 1, 600, 8}, 0, {0, 1}},
+    {PUT, {1, 1, 500, 9}, 0, {1, 2}},
+    {NEXT, {0}, 0, {1, 1, 600, 8, 0, 1, 1}},
+    {ASK, {1, 1}, 0, {1, 2, UPLINK_GRANTED - 600, 1}},
+    {NEXT, {0}, 0, {0, 1, 1024, 7, 0, 1, 1}},
+    {CLOSE, {0, 1}, 0, {1}},
+    {NEXT, {0}, 0, {1, 1, 500, 9, 1, 1, 1}},
+    {NEXT, {0}, UPLINK_NONE_WAITS, {0}},
+    {CLOSE, {0, 1}, UPLINK_NOT_PRESENT, {0}},
+    {OPEN, {3}, 0, {0, 2}},
+
+    {START, {0}, 0, {0}},
+    {OPEN, {3}, 0, {0, 1}},
+    {PUT, {0, 1, 200, 1}, 0, {0, 1}},
+    {PUT, {0, 1, 300, 0xfedcba98}, 0, {1, 2}},
+    {CLOSE, {0, 1}, 0, {0}},
+    {CLOSE, {0, 1}, UPLINK_AT_CLOSING, {0}},
+    {PUT, {0, 1, 100, 3}, UPLINK_AT_CLOSING, {0}},
+    {ASK, {0, 1}, 0, {2, 3, 0, 2}},
+    {NEXT, {0}, 0, {0, 1, 200, 1, 0, 1, 1}},
+    {NEXT, {0}, 0, {0, 1, 300, 0xfedcba98, 1, 0, 0}},
+    {OPEN, {3}, 0, {0, 2}},
+    {PUT, {0, 2, 400, 3}, 0, {0, 1}},
+    {CLOSE, {0, 1}, UPLINK_NOT_PRESENT, {0}},
+    {ASK, {0, 2}, 0, {1, 3, 0, 1}},
+    {ASK, {0, 1}, UPLINK_NOT_PRESENT, {0}},
+    {NEXT, {0}, 0, {0, 2, 400, 3, 0, 1, 1}},
+
+    {OPEN, {0}, UPLINK_BAD_WEIGHT, {0}},
+    {OPEN, {UPLINK_HEAVIEST + 1}, UPLINK_BAD_WEIGHT, {0}},
+    {OPEN, {UPLINK_HEAVIEST}, 0, {1, 1}},
+    {PUT, {1, 1, 0, 7}, UPLINK_BAD_LENGTH, {0}},
+    {PUT, {1, 1, UPLINK_LONGEST + 1, 7}, UPLINK_BAD_LENGTH, {0}},
+    {PUT, {1, 1, UPLINK_LONGEST, 7}, 0, {0, 1}},
+    {PUT, {UPLINK_SLOTS - 1, 1, 1, 7}, UPLINK_NOT_PRESENT, {0}},
+    {PUT, {UPLINK_SLOTS, 1, 1, 7}, UPLINK_NO_SLOT, {0}},
+    {CLOSE, {UPLINK_SLOTS, 1}, UPLINK_NO_SLOT, {0}},
+    {ASK, {UPLINK_SLOTS, 1}, UPLINK_NO_SLOT, {0}},
+
+    {TERM, {4, 8}, 0, {4}},
+    {TERM, {UPLINK_COLUMNS, UPLINK_HEAVIEST}, 0, {1}},
+    {TERM, {UPLINK_COLUMNS, 2048}, 0, {12}},
+    {TERM, {UPLINK_COLUMNS + 1, 1}, UPLINK_NO_TERM, {0}},
+    {TERM, {3, 8}, UPLINK_NO_TERM, {0}},
+    {TERM, {3, 0}, UPLINK_NO_TERM, {0}},
+    {TERM, {0, 1}, UPLINK_NO_TERM, {0}},
+    {LEAD, {1, 5, 4095, 0}, 0, {UINT32_MAX - 20474, UINT32_MAX}},
+    {LEAD, {1, 1, 1, 0}, 0, {UINT32_MAX, UINT32_MAX}},
+    {LEAD, {3, 2, 2, 3}, 0, {5, 0}},
+    {LEAD, {UPLINK_HEAVIEST, 0, 1, UINT32_MAX}, 0, {UINT32_MAX - 4094, 4094}},
+    {LEAD, {0, 1, 1, 1}, UPLINK_BAD_WEIGHT, {0}},
+    {LEAD, {1, 1, UPLINK_HEAVIEST + 1, 1}, UPLINK_BAD_WEIGHT, {0}},
+};
+
+static uint8_t kept[SPACE]; /* the state that the calls go on from */
+static unsigned long steps;
+
+static void known(struct step step)
+{
+    static struct left left;
+    struct call c = {step.kind, {0}, UPLINK_STATE_LENGTH, right[step.kind]};
+    memcpy(c.numbers, step.numbers, sizeof c.numbers);
+    everywhere(&c, kept, &left);
+    if (left.number != step.number)
+        stop("another number than the script's", &c, left.number, 0);
+    for (size_t i = 0; i < c.answer_length / 4; i++)
+        if (uplink_field(left.answer, i) != step.fields[i])
+            stop("another field than the script's", &c, left.number, 0);
+    memcpy(kept, left.state, UPLINK_STATE_LENGTH);
+    steps++;
+}
+
+static void run_script(void)
+{
+    memset(kept, PAINT, sizeof kept);
+    known((struct step){NEXT, {0}, UPLINK_UNSOUND, {0}});
+    for (size_t i = 0; i < sizeof script / sizeof *script; i++)
+        known(script[i]);
+    known((struct step){START, {0}, 0, {0}});
+    for (uint32_t slot = 0; slot < UPLINK_SLOTS; slot++)
+        known((struct step){OPEN, {1}, 0, {slot, 1}});
+    known((struct step){OPEN, {1}, UPLINK_NONE_FREE, {0}});
+    for (uint32_t serial = 0; serial < UPLINK_ROOM; serial++)
+        known((struct step){PUT, {63, 1, 1, serial}, 0, {serial, serial + 1}});
+    known((struct step){PUT, {63, 1, 1, 0}, UPLINK_FULL, {0}});
+    known((struct step){NEXT, {0}, 0, {63, 1, 1, 0, 0, 1, 1}});
+}
+
+/* ---- Calls at random. */
 
 static uint64_t seed;
 
@@ -41,89 +260,61 @@ static uint32_t below(uint32_t end)
     return (uint32_t)(seed >> 32) % end;
 }
 
-struct call {
-    int kind;
-    uint32_t numbers[4];
-    size_t state_length, answer_length;
-};
-
-static const size_t right[8] = {0, UPLINK_OPEN_LENGTH, UPLINK_PUT_LENGTH, UPLINK_CLOSE_LENGTH, UPLINK_NEXT_LENGTH, UPLINK_ASK_LENGTH,
-                                UPLINK_LEAD_LENGTH, UPLINK_TERM_LENGTH};
-
-static uint32_t made(const struct call *c, uint8_t *state, uint8_t *answer)
-{
-    const uint32_t *n = c->numbers;
-    size_t s = c->state_length, a = c->answer_length;
-    switch (c->kind) {
-    case 0: return uplink_start(state, s);
-    case 1: return uplink_open(state, s, n[0], answer, a);
-    case 2: return uplink_put(state, s, n[0], n[1], n[2], n[3], answer, a);
-    case 3: return uplink_close(state, s, n[0], n[1], answer, a);
-    case 4: return uplink_next(state, s, answer, a);
-    case 5: return uplink_ask(state, s, n[0], n[1], answer, a);
-    case 6: return uplink_lead(n[0], n[1], n[2], n[3], answer, a);
-    default: return uplink_term(n[0], n[1], answer, a);
-    }
-}
-
 /* Most calls can be accepted; one in sixteen has another length of state or answer, one in 2,000 is Start. */
 static struct call any_call(void)
 {
-    static const int kinds[16] = {1, 1, 2, 2, 2, 2, 2, 2, 3, 4, 4, 4, 4, 5, 6, 7};
-    struct call c = {below(2000) == 0 ? 0 : kinds[below(16)], {0, 0, 0, 0}, UPLINK_STATE_LENGTH, 0};
+    static const enum kind kinds[16] = {OPEN, OPEN, PUT, PUT, PUT, PUT, PUT, PUT, CLOSE, NEXT, NEXT, NEXT, NEXT, ASK, LEAD, TERM};
+    struct call c = {below(2000) == 0 ? START : kinds[below(16)], {0}, UPLINK_STATE_LENGTH, 0};
     c.answer_length = right[c.kind];
-    c.numbers[0] = c.kind == 1 || c.kind == 6 ? below(4097) : c.kind == 7 ? below(14) : below(65);
-    c.numbers[1] = c.kind == 7 ? below(4097) : 1 + below(below(8) ? 2 : 6);
-    c.numbers[2] = c.kind == 6 ? below(4097) : below(8) ? 1 + below(1024) : below(1026);
+    c.numbers[0] = c.kind == OPEN || c.kind == LEAD ? below(4097) : c.kind == TERM ? below(14) : below(65);
+    c.numbers[1] = c.kind == TERM ? below(4097) : 1 + below(below(8) ? 2 : 6);
+    c.numbers[2] = c.kind == LEAD ? below(4097) : below(8) ? 1 + below(1024) : below(1026);
     c.numbers[3] = below(UINT32_MAX);
+    if (c.kind != START && below(32) == 0)
+        c.answer_length = below(WIDEST);
     if (below(32) == 0)
-        c.answer_length = below(LONGEST);
-    if (below(32) == 0)
-        c.state_length = below(4) ? UPLINK_STATE_LENGTH - 1 + 2 * below(2) : below(ROOM);
+        c.state_length = below(4) ? UPLINK_STATE_LENGTH - 1 + 2 * below(2) : below(SPACE);
     return c;
 }
 
-int main(int count, char **words)
+/* Of each kind at least one call in so many of all must be accepted; with the library it is twice as many. */
+static const unsigned long one_in[KINDS] = {6000, 50, 20, 120, 20, 120, 40, 250};
+
+static void run_at_random(unsigned long calls)
 {
-    unsigned long calls = count > 1 ? strtoul(words[1], NULL, 10) : 1000000, accepted = 0;
-    uint8_t *rooms[PLACES][2], *state[PLACES], before[ROOM] = {0}, first_answer[LONGEST], first_state[ROOM];
-    uint8_t kept[UPLINK_STATE_LENGTH] = {0}; /* the state that the calls go on from */
-    seed = (count > 2 ? strtoul(words[2], NULL, 10) : 1) * 0x9e3779b97f4a7c15u + 1;
-    for (int p = 0; p < PLACES; p++)
-        for (int i = 0; i < 2; i++)
-            rooms[p][i] = p == 2 ? NULL : forbidden();
+    static struct left left;
+    static uint8_t before[SPACE];
+    unsigned long accepted[KINDS] = {0};
+    memset(kept, 0, sizeof kept);
     for (unsigned long i = 0; i < calls; i++) {
         struct call c = any_call();
-        uint32_t first = 0;
         memcpy(before, kept, sizeof kept);
         /* One call in 64 meets a changed byte. */
         if (below(64) == 0)
             before[below(4) ? below(896) : below(UPLINK_STATE_LENGTH)] ^= (uint8_t)(1 << below(8));
-        for (int p = 0; p < PLACES; p++) {
-            uint8_t *answer = lent(rooms[p][1], p, c.answer_length);
-            state[p] = lent(rooms[p][0], p, c.state_length);
-            memcpy(state[p], before, c.state_length);
-            memset(answer, 0xa5, c.answer_length);
-            uint32_t number = made(&c, state[p], answer);
-            if (p == 0) {
-                first = number;
-                memcpy(first_answer, answer, c.answer_length);
-                memcpy(first_state, state[p], c.state_length);
-            }
-            if (number != first || memcmp(answer, first_answer, c.answer_length) != 0 || memcmp(state[p], first_state, c.state_length) != 0 ||
-                (number != 0 && memcmp(state[p], before, c.state_length) != 0)) {
-                printf("call %lu of kind %d differs at place %d: number %u, first %u\n", i, c.kind, p, number, first);
-                return 1;
-            }
-            given_back(answer, p);
-            given_back(state[p], p);
-        }
-        if (first == 0) {
-            accepted++;
-            if (c.kind < 6)
-                memcpy(kept, first_state, sizeof kept);
+        everywhere(&c, before, &left);
+        if (left.number == UPLINK_ACCEPTED) {
+            accepted[c.kind]++;
+            if (c.kind <= ASK)
+                memcpy(kept, left.state, UPLINK_STATE_LENGTH);
         }
     }
-    printf("%lu calls at each of %d places, %lu accepted, no difference\n", calls, PLACES, accepted);
+    for (int kind = 0; kind < KINDS; kind++)
+        if (accepted[kind] < calls / one_in[kind]) {
+            printf("%lu accepted calls of %s are too few\n", accepted[kind], names[kind]);
+            exit(1);
+        }
+}
+
+int main(int count, char **words)
+{
+    unsigned long calls = count > 1 ? strtoul(words[1], NULL, 10) : 1000000;
+    seed = (count > 2 ? strtoul(words[2], NULL, 10) : 1) * 0x9e3779b97f4a7c15u + 1;
+    for (int place = 0; place < 2; place++)
+        for (int which = 0; which < 2; which++)
+            rooms[place][which] = forbidden();
+    run_script();
+    run_at_random(calls);
+    printf("%lu known answers and %lu calls at random, each at %d places: no fault\n", steps, calls, PLACES);
     return 0;
 }

@@ -19,12 +19,6 @@ static uint32_t slot, ticket;
 static enum kind asked;
 static ucontext_t here, there;
 
-static uint32_t field(int n)
-{
-    const uint8_t *b = answer + 4 * n;
-    return b[0] | (uint32_t)b[1] << 8 | (uint32_t)b[2] << 16 | (uint32_t)b[3] << 24;
-}
-
 static void call(void)
 {
     switch (asked) {
@@ -64,7 +58,7 @@ int main(void)
     uplink_start(state, sizeof state);
     for (uint32_t channel = 0; channel < 40; channel++) {
         uplink_open(state, sizeof state, 1 + channel * 61 % 4095, answer, UPLINK_OPEN_LENGTH);
-        slot = field(0), ticket = field(1);
+        slot = uplink_field(answer, 0), ticket = uplink_field(answer, 1);
         for (uint32_t record = 0; record < 8; record++)
             uplink_put(state, sizeof state, slot, ticket, 1000, record, answer, UPLINK_PUT_LENGTH);
     }

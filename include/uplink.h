@@ -4,12 +4,21 @@
  * The scheduler keeps nothing of its own: every call is lent the whole state, UPLINK_STATE_LENGTH bytes, which
  * uplink_start makes fresh. Each call checks that memory whole before it acts. The result of a call is its number:
  * 0 if it was accepted, else one of enum uplink_refusal, and then the state keeps every byte and the answer's fields
- * are 0. An answer is a lent buffer of an exact length; its fields are 4 bytes each, lowest byte first (uplink_lead:
- * one field of 8 bytes, two's complement). A buffer of another length gives UPLINK_UNSOUND before all else and keeps
- * its bytes. State and answer must not overlap. No alignment is asked for. docs/ANSWERS.md has every byte.
+ * are 0. An answer is a lent buffer of an exact length; its fields are 4 bytes each, lowest byte first, and
+ * uplink_field reads one (uplink_lead: one field of 8 bytes, two's complement, read by uplink_signed). A buffer of
+ * another length gives UPLINK_UNSOUND before all else and keeps its bytes. State and answer must not overlap. No
+ * alignment is asked for. docs/ANSWERS.md has every byte.
  *
- * One caller at a time for one state; two states know nothing of each other. No call allocates, blocks or keeps a
- * pointer.
+ * Work: a call reads the state about once; uplink_put and uplink_next then move up to 6,138 bytes of it by one place.
+ * Every loop has a bound, whatever bytes are lent; no call allocates, blocks, recurses or keeps a pointer. Stack: 4,400
+ * bytes are enough for any call.
+ *
+ * Interrupts and threads: there is no static data, so calls on different states may interrupt each other or run at the
+ * same time. On one state only one call may be under way: whoever makes a call from an interrupt has to be sure that it
+ * interrupts none on the same state. A call that is interrupted by another on the same state is the caller's fault, and
+ * nothing here finds it.
+ *
+ * The archive, target/staticlib/libdriver.a, is for x86-64 Linux and needs memset, and nothing else.
  */
 #ifndef UPLINK_H
 #define UPLINK_H
@@ -22,7 +31,7 @@ extern "C" {
 #endif
 
 /* Version of this interface: major * 10000 + minor * 100 + patch. */
-#define UPLINK_VERSION 10000
+#define UPLINK_VERSION 10100
 
 /* Lengths in bytes of the lent state and of each call's answer. */
 #define UPLINK_STATE_LENGTH 7040
@@ -34,7 +43,31 @@ extern "C" {
 #define UPLINK_LEAD_LENGTH 8
 #define UPLINK_TERM_LENGTH 4
 
-/* The numbers sent back. */
+/* Slots are 0 to UPLINK_SLOTS - 1. Tickets are 1 to UPLINK_LAST_TICKET, so that 0 is nobody's. */
+#define UPLINK_SLOTS 64
+#define UPLINK_LAST_TICKET 4294967295
+
+/* Weights are 1 to UPLINK_HEAVIEST, and orders 1 to UPLINK_COLUMNS: a column for each bit of a weight. */
+#define UPLINK_HEAVIEST 4095
+#define UPLINK_COLUMNS 12
+
+/* Lengths of records are 1 to UPLINK_LONGEST bytes. At most UPLINK_ROOM records wait in a channel. */
+#define UPLINK_LONGEST 1024
+#define UPLINK_ROOM 16
+
+/* References are 0 to UPLINK_REFERENCES - 1. Serials are 0 to UPLINK_SERIALS - 1, and then 0 again. */
+#define UPLINK_REFERENCES 4294967296
+#define UPLINK_SERIALS 65536
+
+/* Bytes that a visit grants, and the largest deficit in an open visit and at rest. */
+#define UPLINK_GRANTED 1024
+#define UPLINK_VISIT_LIMIT 2046
+#define UPLINK_REST_LIMIT 1023
+
+/* One uplink_next takes at most UPLINK_MOST_TERMS terms. */
+#define UPLINK_MOST_TERMS 2
+
+/* The numbers sent back. uplink_text has them in words. */
 enum uplink_refusal {
     UPLINK_ACCEPTED = 0,
     UPLINK_NO_SLOT = 1,     /* slot above 63 */
@@ -47,38 +80,80 @@ enum uplink_refusal {
     UPLINK_NONE_WAITS = 8,  /* no record waits */
     UPLINK_NO_ROW = 9,      /* two terms taken and both columns empty (no sound state gives it) */
     UPLINK_UNSOUND = 10,    /* lent state unsound or of wrong length; answer buffer of wrong length */
-    UPLINK_NO_TERM = 11     /* order not 1 to 12, or position not 1 to 2^order - 1 */
+    UPLINK_NO_TERM = 11,    /* order not 1 to 12, or position not 1 to 2^order - 1 */
 };
 
 /* Makes the lent memory the fresh state: all slots free, all zeros. Refused only for its length. */
 uint32_t uplink_start(uint8_t *state, size_t state_length);
 
-/* Opens a channel of a weight, 1 to 4,095. Answer: slot, ticket. */
+/* Opens a channel of a weight. Answer: slot, ticket, which together name it from now on. */
 uint32_t uplink_open(uint8_t *state, size_t state_length, uint32_t weight, uint8_t *answer, size_t answer_length);
 
-/* Adds a record of a length, 1 to 1,024, and any reference. Answer: serial, number now waiting. */
+/*
+ * Adds a record of a length. The reference is any number by which the driver finds the record's bytes again; they stay
+ * with the driver. Answer: serial, number now waiting.
+ */
 uint32_t uplink_put(uint8_t *state, size_t state_length, uint32_t slot, uint32_t ticket, uint32_t length,
                     uint32_t reference, uint8_t *answer, size_t answer_length);
 
-/* Closes a channel. Answer: 1 if its slot is free at once, 0 if its records are sent first. */
+/* Closes a channel. Answer: 1 if its slot is free at once, 0 if its records are sent first, by uplink_next as ever. */
 uint32_t uplink_close(uint8_t *state, size_t state_length, uint32_t slot, uint32_t ticket, uint8_t *answer,
                       size_t answer_length);
 
 /*
- * Takes the next record to send off its queue. Answer: slot, ticket, length, reference, serial, 1 if this send started a
- * visit else 0, terms taken (0, 1 or 2).
+ * Takes the next record to send off its queue, for good. Answer: slot, ticket, length, reference, serial, 1 if this
+ * send started a visit else 0, terms taken (0, 1 or 2).
  */
 uint32_t uplink_next(uint8_t *state, size_t state_length, uint8_t *answer, size_t answer_length);
 
-/* Tells of a channel. Answer: 1 for open or 2 for closing, weight, deficit, number waiting. */
-uint32_t uplink_ask(uint8_t *state, size_t state_length, uint32_t slot, uint32_t ticket, uint8_t *answer,
+/* Tells of a channel, and changes nothing. Answer: 1 for open or 2 for closing, weight, deficit, number waiting. */
+uint32_t uplink_ask(const uint8_t *state, size_t state_length, uint32_t slot, uint32_t ticket, uint8_t *answer,
                     size_t answer_length);
 
-/* The signed lead w1 * v2 - w2 * v1 of two weights and visit counts. Answer: the lead, 8 bytes. */
+/*
+ * The lead of the second channel over the first, w1 * v2 - w2 * v1, of their weights w1, w2 and visit counts v1, v2.
+ * Positive: the second is ahead, with more visits for its weight, and the first is behind. Negative: the first is ahead
+ * and the second is behind. 0: they are level. So 1, 1, 1, 0 (one visit of the first, none of the second) gives -1.
+ * Answer: the lead, 8 bytes.
+ */
 uint32_t uplink_lead(uint32_t w1, uint32_t v1, uint32_t w2, uint32_t v2, uint8_t *answer, size_t answer_length);
 
-/* The term at a position of the spread sequence of an order. Answer: the term. */
+/* The term at a position, 1 to 2^order - 1, of the spread sequence of an order. Answer: the term. */
 uint32_t uplink_term(uint32_t order, uint32_t position, uint8_t *answer, size_t answer_length);
+
+/* Field i of an answer, the first is 0: 4 bytes, lowest first. The answer has to have that field. */
+static inline uint32_t uplink_field(const uint8_t *answer, size_t i)
+{
+    const uint8_t *b = answer + 4 * i;
+    return (uint32_t)b[0] | (uint32_t)b[1] << 8 | (uint32_t)b[2] << 16 | (uint32_t)b[3] << 24;
+}
+
+/* The lead in the answer of uplink_lead. */
+static inline int64_t uplink_signed(const uint8_t *answer)
+{
+    uint64_t bits = (uint64_t)uplink_field(answer, 1) << 32 | uplink_field(answer, 0);
+    return bits <= INT64_MAX ? (int64_t)bits : -1 - (int64_t)(UINT64_MAX - bits);
+}
+
+/* A short text for the number of a call. */
+static inline const char *uplink_text(uint32_t number)
+{
+    switch (number) {
+    case UPLINK_ACCEPTED: return "accepted";
+    case UPLINK_NO_SLOT: return "no such slot";
+    case UPLINK_NOT_PRESENT: return "slot free, or ticket not its present one";
+    case UPLINK_AT_CLOSING: return "channel is closing";
+    case UPLINK_BAD_LENGTH: return "length out of range";
+    case UPLINK_FULL: return "no room for one more record";
+    case UPLINK_BAD_WEIGHT: return "weight out of range";
+    case UPLINK_NONE_FREE: return "no slot can be opened";
+    case UPLINK_NONE_WAITS: return "no record waits";
+    case UPLINK_NO_ROW: return "no row in the columns of two terms";
+    case UPLINK_UNSOUND: return "state unsound, or state or answer of wrong length";
+    case UPLINK_NO_TERM: return "no such term";
+    default: return "not a number of these calls";
+    }
+}
 
 #ifdef __cplusplus
 }
