@@ -6,6 +6,8 @@ use memory::heads::load_head;
 use memory::heads::waiting_of;
 use memory::point::load_scan;
 use memory::rows::row_count;
+use rules::GRANTED;
+use rules::cost_of;
 use soundness::check;
 use std::num::wrapping_sub_u16;
 use visits::choose::Choice;
@@ -17,15 +19,15 @@ ghost use mathlib.Core.Path.{_≡_};
 ghost use mathlib.Core.Bool.{true};
 ghost use Prim.Native.Nat.{_+_, _-_, _*_, _%_, _≤_, _<_};
 ghost use lib.ListN.{length};
+ghost use Rattle.rules.specs.Numbers.{slots, granted, serials};
 ghost use Rattle.rules.specs.Next.{nextCall};
+ghost use Rattle.rules.proofs.Facts.{grantLimit};
+ghost use Rattle.memory.specs.Layout.{memoryLength};
 ghost use Rattle.memory.specs.Memory.{soundBytes, replied, on};
 ghost use Rattle.memory.specs.Reading.{waitingAt, stateOf};
 ghost use Rattle.uplink.specs.Told.{nextTold, leaving};
 ghost use Rattle.visits.specs.Choice.{Chose};
 ghost use Rattle.visits.specs.Settle.{paidHead};
-
-// "A visit grants 1,024 bytes."
-const GRANTED: u32 = 1024;
 
 // Next sends one record: an open visit goes on, or the first slot still to visit starts one, or the first of the next column that has a row.
 pub fn next(state: &mut [u8]) -> NextAnswer
@@ -61,7 +63,8 @@ fn send(state: &mut [u8], chosen: Chosen) -> NextAnswer
     let head = load_head(state, slot);
     let first = oldest(state, slot);
     let serial = head_serial(state, slot, head.serial);
-    let paid = paying(head, chosen.started, first.size);
+    let cost = cost_of(first.size);
+    let paid = paying(head, chosen.started, cost);
     let scan = chosen.scan;
     settle(state, slot, paid, scan);
     NextAnswer::Sent {
@@ -77,24 +80,24 @@ fn send(state: &mut [u8], chosen: Chosen) -> NextAnswer
 
 // Serials go up by one, so the head record's is the next one less the number waiting.
 fn head_serial(state: &[u8], slot: usize, serial: u16) -> u16
-    requires { ⌜ (length (now state) ≡ 7040) × (slot < 64) ⌝ }
-    ensures { λ r. ⌜ r ≡ (serial + 65536 - waitingAt (now (state .entry)) slot) % 65536 ⌝ }
+    requires { ⌜ (length (now state) ≡ memoryLength) × (slot < slots) ⌝ }
+    ensures { λ r. ⌜ r ≡ (serial + serials - waitingAt (now (state .entry)) slot) % serials ⌝ }
 {
     let waiting = waiting_of(state, slot);
     wrapping_sub_u16(serial, waiting as u16)
 }
 
-// The deficit, with the grant where the visit starts, pays for the record.
-fn paying(head: Head, started: u32, size: u16) -> Head
-    requires { ⌜ (head .deficit + started * 1024 ≤ 2047) × (size ≤ head .deficit + started * 1024) ⌝ }
-    ensures { λ r. ⌜ r ≡ paidHead head started size ⌝ }
+// The deficit, with the grant where the visit starts, pays what the record costs.
+fn paying(head: Head, started: u32, cost: u32) -> Head
+    requires { ⌜ (head .deficit + started * granted ≤ grantLimit) × (cost ≤ head .deficit + started * granted) ⌝ }
+    ensures { λ r. ⌜ r ≡ paidHead head started cost ⌝ }
 {
     let funded = head.deficit as u32 + started * GRANTED;
     Head {
         kind: head.kind,
         ticket: head.ticket,
         weight: head.weight,
-        deficit: (funded - size as u32) as u16,
+        deficit: (funded - cost) as u16,
         serial: head.serial,
     }
 }

@@ -3,6 +3,8 @@
 // Nothing is written here: the scan point goes in by value, is altered by the stepping routine (step.rt), and comes back with the slot.
 use super::step::Step;
 use super::step::stepped;
+use super::step::turns;
+use memory::layout::Position;
 use memory::point::Scan;
 use memory::point::load_order;
 use memory::search::column_of;
@@ -12,6 +14,8 @@ ghost use mathlib.Core.Path.{_≡_};
 ghost use mathlib.Core.Bool.{false};
 ghost use Prim.Native.Nat.{_^_, _≤_, _<_};
 ghost use Rattle.lists.specs.Tests.{isEmpty};
+ghost use Rattle.spread.specs.Limits.{columns};
+ghost use Rattle.rules.specs.Numbers.{slots};
 ghost use Rattle.rules.specs.Next.{nextPosition};
 ghost use Rattle.memory.specs.Reading.{stateOf};
 ghost use Rattle.memory.specs.Search.{RowsWithin, inMask, firstOf};
@@ -63,7 +67,7 @@ pub fn choose(state: &[u8], scan: Scan) -> Choice
 
 // The first slot to visit, in row order, starts its visit and goes off the list.
 fn first_visit(state: &[u8], terms: u32, scan: Scan) -> Chosen
-    requires { ⌜ RowsWithin (now state) × (firstOf (inMask (scan .mask) (stateOf (now state) .rows)) < 64) ⌝ }
+    requires { ⌜ RowsWithin (now state) × (firstOf (inMask (scan .mask) (stateOf (now state) .rows)) < slots) ⌝ }
     ensures { λ r. ⌜ Visits terms scan (firstOf (inMask (scan .mask) (stateOf (now (state .entry)) .rows))) r ⌝ }
 {
     let slot = first_in(state, scan.mask);
@@ -99,12 +103,12 @@ fn term_taken(state: &[u8], scan: Scan) -> Scan
 }
 
 // The position after one: "P goes up by one, and 2^k becomes 1".
-fn next_position(order: u32, position: u16) -> u16
-    requires { ⌜ (order ≤ 12) × (position < 2 ^ order) ⌝ }
+fn next_position(order: u32, position: Position) -> Position
+    requires { ⌜ (order ≤ columns) × (position < 2 ^ order) ⌝ }
     ensures { λ r. ⌜ r ≡ nextPosition order position ⌝ }
 {
     let next = position + 1;
-    if next == 1u16 << order {
+    if next == turns(order) {
         return 1;
     }
     next

@@ -1,40 +1,47 @@
 // The record sent leaves its queue, the channel pays for it, and the visit is settled.
 //
 // The scan point with the visit open is stored first, so that the memory is that of a state at every step.
+use super::step::turns;
 use memory::heads::Head;
 use memory::heads::store_head;
 use memory::heads::waiting_of;
+use memory::layout::Position;
 use memory::point::Scan;
 use memory::point::store_order;
 use memory::point::store_scan;
-use memory::records::Entry;
+use memory::records::Cell;
 use memory::records::first_of;
 use memory::records::load_record;
 use memory::records::take_record;
 use memory::rows::leave_row;
 use memory::search::order_of_rows;
+use rules::cost_of;
 ghost use mathlib.Core.Path.{_≡_};
 ghost use mathlib.Core.Bool.{cond};
 ghost use mathlib.Core.List.{List, [], _∷_};
 ghost use mathlib.Core.Option.{none, some};
 ghost use Prim.Native.Nat.{_%_, _^_, _≤_, _<_};
 ghost use lib.Dec.{leb};
-ghost use lib.ListN.{length, getD};
+ghost use lib.ListN.{length};
 ghost use Rattle.lists.specs.Slots.{occurs};
+ghost use Rattle.spread.specs.Limits.{columns};
+ghost use Rattle.rules.specs.Numbers.{slots};
 ghost use Rattle.rules.specs.State.{Record, Channel, Scan as ScanPoint, State, at, weights, orderOf, withChannel, withScan};
 ghost use Rattle.rules.specs.Next as rules;
-ghost use Rattle.memory.specs.Layout.{visitNumber, bytesOf};
-ghost use Rattle.memory.specs.Reading.{firstAt, recordAt, rowsAt, stateOf};
+ghost use Rattle.memory.specs.Layout.{cells, visitNumber, bytesOf, memoryLength};
+ghost use Rattle.memory.specs.Reading.{firstAt, recordAt, rowCountAt, rowsAt, stateOf};
+ghost use Rattle.memory.specs.Head.{headOf};
+ghost use Rattle.memory.specs.Records.{cellOf};
 ghost use Rattle.memory.specs.Edits.{rowGone};
 ghost use Rattle.memory.specs.Fits.{Fits};
 ghost use Rattle.memory.specs.Search.{RowsWithin};
 ghost use Rattle.memory.specs.Point.{inNumbers};
-ghost use Rattle.visits.specs.Settle.{inHead, Settles, Paid, orderAgain};
+ghost use Rattle.visits.specs.Settle.{Settles, Settling, orderAgain};
 
 // The oldest record of a slot.
-pub fn oldest(state: &[u8], slot: usize) -> Entry
-    requires { ⌜ (length (now state) ≡ 7040) × (slot < 64) × (firstAt (now state) slot < 1024) ⌝ }
-    ensures { λ r. ⌜ (r .size ≡ recordAt (now (state .entry)) (firstAt (now (state .entry)) slot) .size) × (r .reference ≡ recordAt (now (state .entry)) (firstAt (now (state .entry)) slot) .reference) ⌝ }
+pub fn oldest(state: &[u8], slot: usize) -> Cell
+    requires { ⌜ (length (now state) ≡ memoryLength) × (slot < slots) × (firstAt (now state) slot < cells) ⌝ }
+    ensures { λ r. ⌜ r ≡ cellOf (recordAt (now (state .entry)) (firstAt (now (state .entry)) slot)) ⌝ }
 {
     let place = first_of(state, slot);
     load_record(state, place)
@@ -56,8 +63,8 @@ pub fn settle(state: &mut [u8], slot: usize, head: Head, scan: Scan)
 
 // "If no record is left, the row leaves, its deficit is 0, the visit ends, a closing slot is freed, the order is worked out again and P becomes P mod 2^k."
 fn row_left(state: &mut [u8], slot: usize, head: Head, scan: Scan)
-    requires { ⌜ ((z : Paid (now state) slot head scan) × (z .channel .waiting ≡ [])) ⌝ }
-    ensures { λ _. ⌜ ((z : Paid (now (state .entry)) slot head scan) → z .channel .waiting ≡ [] → now (state .exit) ≡ bytesOf (rules.rowLeft (z .state) slot (z .channel))) ⌝ }
+    requires { ⌜ ((z : Settling (now state) slot head scan) × (z .channel .waiting ≡ [])) ⌝ }
+    ensures { λ _. ⌜ ((z : Settling (now (state .entry)) slot head scan) → z .channel .waiting ≡ [] → now (state .exit) ≡ bytesOf (rules.rowLeft (z .state) slot (z .channel))) ⌝ }
 {
     row_gone(state, slot, head);
     order_again(state, scan);
@@ -65,8 +72,8 @@ fn row_left(state: &mut [u8], slot: usize, head: Head, scan: Scan)
 
 // The row leaves, and its channel is emptied.
 fn row_gone(state: &mut [u8], slot: usize, head: Head)
-    requires { ⌜ (length (now state) ≡ 7040) × (slot < 64) × (getD (now state) 832 0 ≤ 64) × (1 ≤ occurs slot (rowsAt (now state))) ⌝ }
-    ensures { λ _. ⌜ ((s : State) (c : Channel) → Fits s → now (state .entry) ≡ bytesOf s → occurs slot (s .scan .toVisit) ≡ 0 → head ≡ inHead c → at (s .channels) slot .waiting ≡ []
+    requires { ⌜ (length (now state) ≡ memoryLength) × (slot < slots) × (rowCountAt (now state) ≤ slots) × (1 ≤ occurs slot (rowsAt (now state))) ⌝ }
+    ensures { λ _. ⌜ ((s : State) (c : Channel) → Fits s → now (state .entry) ≡ bytesOf s → occurs slot (s .scan .toVisit) ≡ 0 → head ≡ headOf c → at (s .channels) slot .waiting ≡ []
         → now (state .exit) ≡ bytesOf (withChannel (rowGone s slot) slot (rules.emptied (c .kind) c))) ⌝ }
 {
     let left = emptied(head);
@@ -76,7 +83,7 @@ fn row_gone(state: &mut [u8], slot: usize, head: Head)
 
 // "its deficit is 0", and a closing slot is freed: it keeps its ticket and nothing else.
 fn emptied(head: Head) -> Head
-    ensures { λ r. ⌜ (r .kind ≤ 2) × ((c : Channel) → head ≡ inHead c → r ≡ inHead (rules.emptied (c .kind) c)) ⌝ }
+    ensures { λ r. ⌜ ((c : Channel) → head ≡ headOf c → r ≡ headOf (rules.emptied (c .kind) c)) ⌝ }
 {
     if head.kind == 1 {
         return Head {
@@ -98,7 +105,7 @@ fn emptied(head: Head) -> Head
 
 // "the order is worked out again and P becomes P mod 2^k", and the visit ends.
 fn order_again(state: &mut [u8], scan: Scan)
-    requires { ⌜ RowsWithin (now state) × (orderOf (weights (stateOf (now state) .channels)) (stateOf (now state) .rows) ≤ 12) ⌝ }
+    requires { ⌜ RowsWithin (now state) × (orderOf (weights (stateOf (now state) .channels)) (stateOf (now state) .rows) ≤ columns) ⌝ }
     ensures { λ _. ⌜ ((s : State) (p : ScanPoint) → Fits s → now (state .entry) ≡ bytesOf s → scan ≡ inNumbers p → now (state .exit) ≡ bytesOf (orderAgain s p)) ⌝ }
 {
     let order = order_of_rows(state);
@@ -114,21 +121,22 @@ fn order_again(state: &mut [u8], scan: Scan)
 }
 
 // "P becomes P mod 2^k".
-fn position_left(position: u16, order: u32) -> u16
-    requires { ⌜ order ≤ 12 ⌝ }
+fn position_left(position: Position, order: u32) -> Position
+    requires { ⌜ order ≤ columns ⌝ }
     ensures { λ r. ⌜ r ≡ position % 2 ^ order ⌝ }
 {
-    position % (1u16 << order)
+    position % turns(order)
 }
 
 // "Otherwise the visit stays open exactly if the new head's length is at most the deficit."
 fn row_stays(state: &mut [u8], slot: usize, head: Head, scan: Scan)
-    requires { ⌜ ((z : Paid (now state) slot head scan) × (0 < length (z .channel .waiting))) ⌝ }
-    ensures { λ _. ⌜ ((z : Paid (now (state .entry)) slot head scan) (h : Record) (rest : List Record) → z .channel .waiting ≡ h ∷ rest
+    requires { ⌜ ((z : Settling (now state) slot head scan) × (0 < length (z .channel .waiting))) ⌝ }
+    ensures { λ _. ⌜ ((z : Settling (now (state .entry)) slot head scan) (h : Record) (rest : List Record) → z .channel .waiting ≡ h ∷ rest
         → now (state .exit) ≡ bytesOf (rules.rowStays (z .state) slot h (z .channel))) ⌝ }
 {
     let next = oldest(state, slot);
-    let visit = visit_left(slot, next.size, head.deficit);
+    let cost = cost_of(next.size);
+    let visit = visit_left(slot, cost, head.deficit);
     let left = Scan {
         position: scan.position,
         column: scan.column,
@@ -140,11 +148,11 @@ fn row_stays(state: &mut [u8], slot: usize, head: Head, scan: Scan)
 }
 
 // The number of the visit that stays open: one more than the slot, and 0 for none.
-fn visit_left(slot: usize, size: u16, deficit: u16) -> u8
-    requires { ⌜ slot < 64 ⌝ }
-    ensures { λ r. ⌜ r ≡ visitNumber (cond (leb size deficit) (some slot) none) ⌝ }
+fn visit_left(slot: usize, cost: u32, deficit: u16) -> u8
+    requires { ⌜ slot < slots ⌝ }
+    ensures { λ r. ⌜ r ≡ visitNumber (cond (leb cost deficit) (some slot) none) ⌝ }
 {
-    if size <= deficit {
+    if cost <= deficit as u32 {
         return slot as u8 + 1;
     }
     0
