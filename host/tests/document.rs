@@ -20,10 +20,10 @@ fn filled(weights: &[u32], records: usize, length: u32) -> Scheduler {
 fn checks_1_to_4_terms() {
     assert_eq!(term(4, 8), Ok(4));
     assert_eq!(term(12, 4_095), Ok(1));
-    assert_eq!(term(3, 8), Err(Refusal::BadTerm));
+    assert_eq!(term(3, 8), Err(Refusal::NoTerm));
     assert_eq!(term(3, 7), Ok(1));
     for position in [0, 1, 2, u32::MAX] {
-        assert_eq!(term(0, position), Err(Refusal::BadTerm));
+        assert_eq!(term(0, position), Err(Refusal::NoTerm));
     }
 }
 
@@ -86,7 +86,7 @@ fn check_11_leads() {
 #[test]
 fn check_12_the_65th_open() {
     let mut scheduler = filled(&[1; 64], 0, 0);
-    assert_eq!(scheduler.open(1), Err(Refusal::NoSlot));
+    assert_eq!(scheduler.open(1), Err(Refusal::NoneFree));
     assert_eq!(scheduler.open(0), Err(Refusal::BadWeight));
     assert_eq!(scheduler.close(17, 1), Ok(Closed::Freed));
     assert_eq!(scheduler.open(1), Ok(Opened { slot: 17, ticket: 2 }));
@@ -104,11 +104,11 @@ fn the_sequence() {
             assert_eq!(found, position.trailing_zeros() + 1);
             assert_eq!(u64::from(found), whole[position as usize - 1]);
         }
-        assert_eq!(term(order, 0), Err(Refusal::BadTerm));
-        assert_eq!(term(order, 1 << order), Err(Refusal::BadTerm));
+        assert_eq!(term(order, 0), Err(Refusal::NoTerm));
+        assert_eq!(term(order, 1 << order), Err(Refusal::NoTerm));
     }
     for order in [13, 31, 32, 33, 64, u32::MAX] {
-        assert_eq!(term(order, 1), Err(Refusal::BadTerm));
+        assert_eq!(term(order, 1), Err(Refusal::NoTerm));
     }
 }
 

@@ -13,12 +13,12 @@ use std::fmt::Write;
 use std::hint::black_box;
 use std::time::Instant;
 
-use host::answers::Sent;
 use host::check::record_by_record;
-use host::driver::{Linked, Memory};
 use host::engine::Engine;
 use host::layout;
+use host::linked::LINKED;
 use host::scheduler::Scheduler;
+use uplink::{Memory, Sent};
 
 const BATCHES: usize = 301;
 /// Repetitions in a batch.
@@ -115,7 +115,8 @@ fn plain_pair(scheduler: &mut Scheduler, bytes: &[u8]) {
 
 fn refused(lent: &mut [u8]) {
     let mut answer = [0; 16];
-    assert_eq!(black_box(Linked.ask(lent, 64, 1, &mut answer)), 1);
+    let mut entries = LINKED;
+    assert_eq!(black_box(entries.ask(lent, 64, 1, &mut answer)), 1);
 }
 
 fn read(bytes: &[u8]) {
