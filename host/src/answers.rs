@@ -1,14 +1,15 @@
-//! The answers of the calls and the numbers sent back (document 01, "The calls" and "Numbers sent back").
+//! The answers of the calls and the numbers sent back (document 01, "The calls" and "Numbers sent back"), for the independent scheduler: written from
+//! that document, not taken from the wrapper.
 
-/// Why a call is refused. The discriminant is document 01's number.
+/// Why a call is refused: document 01's number, under the header's name.
 #[derive(Clone, Copy, Debug, PartialEq, Eq)]
 pub enum Refusal {
     /// "slot above 63"
-    SlotAbove = 1,
+    NoSlot = 1,
     /// "slot free, or ticket not its present one"
     NotPresent = 2,
     /// "channel is closing"
-    IsClosing = 3,
+    AtClosing = 3,
     /// "length 0 or above 1,024"
     BadLength = 4,
     /// "16 records wait already"
@@ -16,30 +17,30 @@ pub enum Refusal {
     /// "weight 0 or above 4,095"
     BadWeight = 6,
     /// "no slot can be opened"
-    NoSlot = 7,
+    NoneFree = 7,
     /// "no record waits"
-    NothingWaits = 8,
+    NoneWaits = 8,
     /// "two terms taken and both columns empty"
-    EmptyColumns = 9,
+    NoRow = 9,
     /// "lent state unsound or of wrong length"
     Unsound = 10,
     /// "order not 1 to 12, or position not 1 to 2^order - 1"
-    BadTerm = 11,
+    NoTerm = 11,
 }
 
 impl Refusal {
     pub const ALL: [Refusal; 11] = [
-        Refusal::SlotAbove,
+        Refusal::NoSlot,
         Refusal::NotPresent,
-        Refusal::IsClosing,
+        Refusal::AtClosing,
         Refusal::BadLength,
         Refusal::Full,
         Refusal::BadWeight,
-        Refusal::NoSlot,
-        Refusal::NothingWaits,
-        Refusal::EmptyColumns,
+        Refusal::NoneFree,
+        Refusal::NoneWaits,
+        Refusal::NoRow,
         Refusal::Unsound,
-        Refusal::BadTerm,
+        Refusal::NoTerm,
     ];
 
     /// Document 01's number.
@@ -105,13 +106,19 @@ pub struct Told {
 }
 
 /// An answer as document 01 lists it: its fields in order.
-pub trait Fields {
+pub trait Fields: Sized {
     fn fields(&self) -> Vec<u32>;
+    /// The answer with these fields; none where no answer has them.
+    fn of(fields: &[u32]) -> Option<Self>;
 }
 
 impl Fields for () {
     fn fields(&self) -> Vec<u32> {
         Vec::new()
+    }
+
+    fn of(fields: &[u32]) -> Option<()> {
+        fields.is_empty().then_some(())
     }
 }
 
@@ -119,11 +126,21 @@ impl Fields for Opened {
     fn fields(&self) -> Vec<u32> {
         vec![self.slot, self.ticket]
     }
+
+    fn of(fields: &[u32]) -> Option<Opened> {
+        let &[slot, ticket] = fields else { return None };
+        Some(Opened { slot, ticket })
+    }
 }
 
 impl Fields for Added {
     fn fields(&self) -> Vec<u32> {
         vec![self.serial, self.waiting]
+    }
+
+    fn of(fields: &[u32]) -> Option<Added> {
+        let &[serial, waiting] = fields else { return None };
+        Some(Added { serial, waiting })
     }
 }
 
@@ -134,12 +151,25 @@ impl Fields for Closed {
             Closed::Freed => 1,
         }]
     }
+
+    fn of(fields: &[u32]) -> Option<Closed> {
+        match fields {
+            [0] => Some(Closed::Draining),
+            [1] => Some(Closed::Freed),
+            _ => None,
+        }
+    }
 }
 
 impl Fields for Sent {
     fn fields(&self) -> Vec<u32> {
         let started = u32::from(self.started);
         vec![self.slot, self.ticket, self.length, self.reference, self.serial, started, self.terms]
+    }
+
+    fn of(fields: &[u32]) -> Option<Sent> {
+        let &[slot, ticket, length, reference, serial, started @ (0 | 1), terms] = fields else { return None };
+        Some(Sent { slot, ticket, length, reference, serial, started: started == 1, terms })
     }
 }
 
@@ -150,5 +180,15 @@ impl Fields for Told {
             Standing::Closing => 2,
         };
         vec![standing, self.weight, self.deficit, self.waiting]
+    }
+
+    fn of(fields: &[u32]) -> Option<Told> {
+        let &[standing, weight, deficit, waiting] = fields else { return None };
+        let standing = match standing {
+            1 => Standing::Open,
+            2 => Standing::Closing,
+            _ => return None,
+        };
+        Some(Told { standing, weight, deficit, waiting })
     }
 }

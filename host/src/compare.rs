@@ -67,8 +67,10 @@ impl Lent {
     fn differs(&self, expected: &[u8], name: impl Fn(usize) -> String) -> Option<String> {
         let end = self.bytes.len() - MARGIN;
         let content = &self.bytes[MARGIN..end];
-        if content != expected {
-            let place = (0..expected.len()).find(|&at| content[at] != expected[at])?;
+        if content.len() != expected.len() {
+            return Some(format!("{} has {} bytes, should have {}", name(0), content.len(), expected.len()));
+        }
+        if let Some(place) = (0..expected.len()).find(|&at| content[at] != expected[at]) {
             let (is, should) = (content[place], expected[place]);
             return Some(format!("byte {place} of {}: {is}, should be {should}", name(place)));
         }
@@ -232,4 +234,25 @@ pub fn run_seeds<E: Engine + ?Sized>(engine: &mut E, seed: u64, calls: u64) -> R
         }
     }
     Ok(compared)
+}
+
+#[cfg(test)]
+mod tests {
+    use super::{Lent, MARGIN};
+
+    fn differs(lent: &Lent, expected: &[u8]) -> String {
+        lent.differs(expected, |_| "it".to_string()).unwrap_or_default()
+    }
+
+    /// More bytes with the same beginning, and fewer, are as wrong as other ones.
+    #[test]
+    fn the_whole_is_compared() {
+        let mut lent = Lent::new(&[1, 2, 3]);
+        assert_eq!(differs(&lent, &[1, 2, 3]), "");
+        assert_eq!(differs(&lent, &[1, 2]), "it has 3 bytes, should have 2");
+        assert_eq!(differs(&lent, &[1, 2, 3, 0]), "it has 3 bytes, should have 4");
+        assert_eq!(differs(&lent, &[1, 2, 4]), "byte 2 of it: 3, should be 4");
+        lent.bytes[MARGIN + 3] = 0;
+        assert_eq!(differs(&lent, &[1, 2, 3]), "bytes beside it were written");
+    }
 }

@@ -26,6 +26,18 @@ impl Call {
         }
     }
 
+    /// Its numbers, in the order of the C entry's parameters.
+    pub fn numbers(&mut self) -> Vec<&mut u32> {
+        match self {
+            Call::Start | Call::Next => Vec::new(),
+            Call::Open { weight } => vec![weight],
+            Call::Put { slot, ticket, length, reference } => vec![slot, ticket, length, reference],
+            Call::Close { slot, ticket } | Call::Ask { slot, ticket } => vec![slot, ticket],
+            Call::Lead { w1, v1, w2, v2 } => vec![w1, v1, w2, v2],
+            Call::Term { order, position } => vec![order, position],
+        }
+    }
+
     pub fn takes_state(&self) -> bool {
         !matches!(self, Call::Lead { .. } | Call::Term { .. })
     }

@@ -1,10 +1,9 @@
-//! The scheduler's C entries seen from Rust.
+//! The scheduler's C entries compared with an independent scheduler.
 //!
-//! - [`driver`] (feature `linked`): the exported entries and a safe wrapper for users.
 //! - [`scheduler`], [`steps`], [`sound`], [`spread`], [`answers`]: an independent scheduler, written from document 01 over plain
 //!   structures.
 //! - [`layout`]: the lent memory, written from and read into that scheduler; [`check`]: the same question asked record by record.
-//! - [`engine`], [`model`], [`history`], [`compare`], [`shrink`]: an engine under test is run beside the independent scheduler, call by
+//! - [`engine`], `linked` (feature `linked`), [`model`], [`history`], [`compare`], [`shrink`]: an engine under test is run beside the independent scheduler, call by
 //!   call, and every byte is compared.
 //! - [`random`], [`states`], [`damage`], [`shapes`], [`generate`]: what the compared runs are fed with.
 //! - [`plain`]: plain deficit round robin, to measure against; `pictures` (feature `linked`): the pictures in docs/.
@@ -14,13 +13,13 @@ pub mod answers;
 pub mod check;
 pub mod compare;
 pub mod damage;
-#[cfg(feature = "linked")]
-pub mod driver;
 pub mod engine;
 pub mod generate;
 pub mod history;
 pub mod layout;
 pub mod lift;
+#[cfg(feature = "linked")]
+pub mod linked;
 pub mod model;
 #[cfg(feature = "linked")]
 pub mod pictures;
@@ -34,3 +33,8 @@ pub mod spread;
 pub mod states;
 pub mod steps;
 pub mod texts;
+
+/// The example of the safe wrapper, run with the tests here.
+#[cfg(all(doctest, feature = "linked"))]
+#[doc = include_str!("../uplink/README.md")]
+pub struct Wrapper;

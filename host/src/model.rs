@@ -14,6 +14,11 @@ pub fn answer_bytes(fields: &[u32]) -> Vec<u8> {
     fields.iter().flat_map(|field| field.to_le_bytes()).collect()
 }
 
+/// The fields of an answer's bytes.
+pub fn answer_fields(bytes: &[u8]) -> impl Iterator<Item = u32> + '_ {
+    bytes.chunks(4).map(|field| field.iter().rev().fold(0, |number, &byte| number << 8 | u32::from(byte)))
+}
+
 /// A call on lent bytes: a wrong answer buffer before all else, then the memory, then the rules' own call.
 pub fn on<A: Fields>(
     state: &mut [u8],

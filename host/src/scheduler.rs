@@ -130,7 +130,7 @@ impl Scheduler {
             return Err(Refusal::BadWeight);
         }
         let can_open = |channel: &Channel| channel.kind == Kind::Free && channel.ticket != LAST_TICKET;
-        let slot = self.channels.iter().position(can_open).ok_or(Refusal::NoSlot)?;
+        let slot = self.channels.iter().position(can_open).ok_or(Refusal::NoneFree)?;
         let channel = &mut self.channels[slot];
         channel.kind = Kind::Open;
         channel.ticket += 1;
@@ -144,7 +144,7 @@ impl Scheduler {
         let slot = self.look_up(slot, ticket)?;
         let channel = &mut self.channels[slot];
         if channel.kind == Kind::Closing {
-            return Err(Refusal::IsClosing);
+            return Err(Refusal::AtClosing);
         }
         let length = u64::from(length);
         if length == 0 || length > LONGEST {
@@ -169,7 +169,7 @@ impl Scheduler {
         let slot = self.look_up(slot, ticket)?;
         let channel = &mut self.channels[slot];
         if channel.kind == Kind::Closing {
-            return Err(Refusal::IsClosing);
+            return Err(Refusal::AtClosing);
         }
         if channel.records.is_empty() {
             channel.free();
@@ -182,7 +182,7 @@ impl Scheduler {
 
     pub fn next_sound(&mut self) -> Result<Sent, Refusal> {
         if self.rows.is_empty() {
-            return Err(Refusal::NothingWaits);
+            return Err(Refusal::NoneWaits);
         }
         let (slot, started, terms) = self.choose()?;
         let ticket = self.channels[slot].ticket as u32;
@@ -207,7 +207,7 @@ impl Scheduler {
     fn look_up(&self, slot: u32, ticket: u32) -> Result<usize, Refusal> {
         let slot = slot as usize;
         if slot >= SLOTS {
-            return Err(Refusal::SlotAbove);
+            return Err(Refusal::NoSlot);
         }
         let channel = &self.channels[slot];
         if channel.kind == Kind::Free || channel.ticket != u64::from(ticket) {

@@ -32,11 +32,11 @@ pub fn sequence(order: u64) -> Vec<u64> {
 pub fn term(order: u32, position: u32) -> Result<u32, Refusal> {
     let (order, position) = (u64::from(order), u64::from(position));
     if !(1..=COLUMNS).contains(&order) {
-        return Err(Refusal::BadTerm);
+        return Err(Refusal::NoTerm);
     }
     // The order has been checked, so 2^order can be worked out.
     if position < 1 || position > (1 << order) - 1 {
-        return Err(Refusal::BadTerm);
+        return Err(Refusal::NoTerm);
     }
     Ok(term_of(order, position) as u32)
 }

@@ -33,7 +33,7 @@ impl Scheduler {
         }
         let terms = if self.scan.to_visit.is_empty() { self.take_terms()? } else { 0 };
         let listed = |slot: &usize| self.scan.to_visit.contains(slot);
-        let first = self.rows.iter().copied().find(listed).ok_or(Refusal::EmptyColumns)?;
+        let first = self.rows.iter().copied().find(listed).ok_or(Refusal::NoRow)?;
         self.start_visit(first);
         Ok((first, true, terms))
     }
@@ -55,7 +55,7 @@ impl Scheduler {
                 return Ok(terms);
             }
         }
-        Err(Refusal::EmptyColumns)
+        Err(Refusal::NoRow)
     }
 
     /// Step 2: the slot is taken off the list and granted 1,024.

@@ -1,18 +1,20 @@
 //! The safe wrapper on the exported library: document 01's checks, and any bytes and numbers without a panic.
 #![cfg(feature = "linked")]
 
-use host::answers::{Added, Closed, Opened, Refusal, Sent, Standing, Told};
-use host::driver::{lead, term, Memory};
-use host::layout::LENGTH;
+use std::error::Error;
+
+use host::layout::{is_sound_memory, to_bytes, LENGTH};
 use host::random::Random;
+use host::states;
+use uplink::{lead, term, Added, Closed, Memory, Opened, Refusal, Sent, Standing, Told};
 
 #[test]
 fn checks_1_to_4_and_11() {
     assert_eq!(term(4, 8), Ok(4));
     assert_eq!(term(12, 4_095), Ok(1));
-    assert_eq!(term(3, 8), Err(Refusal::BadTerm));
+    assert_eq!(term(3, 8), Err(Refusal::NoTerm));
     assert_eq!(term(3, 7), Ok(1));
-    assert_eq!(term(0, 1), Err(Refusal::BadTerm));
+    assert_eq!(term(0, 1), Err(Refusal::NoTerm));
     assert_eq!(lead(1, 5, 4_095, 0), Ok(-20_475));
     assert_eq!(lead(1, 1, 1, 0), Ok(-1));
     assert_eq!(lead(0, 1, 1, 0), Err(Refusal::BadWeight));
@@ -56,18 +58,18 @@ fn checks_6_to_10_and_12() {
     for slot in 1..64 {
         assert_eq!(memory.open(1), Ok(Opened { slot, ticket: 1 }));
     }
-    assert_eq!(memory.open(1), Err(Refusal::NoSlot));
+    assert_eq!(memory.open(1), Err(Refusal::NoneFree));
 }
 
 #[test]
 fn a_channel_drains() {
     let mut memory = Memory::new();
-    assert_eq!(memory.next(), Err(Refusal::NothingWaits));
+    assert_eq!(memory.next(), Err(Refusal::NoneWaits));
     memory.open(5).unwrap();
     memory.put(0, 1, 600, 77).unwrap();
     memory.put(0, 1, 424, 78).unwrap();
     assert_eq!(memory.close(0, 1), Ok(Closed::Draining));
-    assert_eq!(memory.close(0, 1), Err(Refusal::IsClosing));
+    assert_eq!(memory.close(0, 1), Err(Refusal::AtClosing));
     assert_eq!(memory.next(), Ok(Sent { slot: 0, ticket: 1, length: 600, reference: 77, serial: 0, started: true, terms: 1 }));
     assert_eq!(memory.ask(0, 1), Ok(Told { standing: Standing::Closing, weight: 5, deficit: 424, waiting: 1 }));
     assert_eq!(memory.next(), Ok(Sent { slot: 0, ticket: 1, length: 424, reference: 78, serial: 1, started: false, terms: 0 }));
@@ -76,7 +78,7 @@ fn a_channel_drains() {
     assert_eq!(memory.close(0, 1), Err(Refusal::NotPresent));
     assert_eq!(memory.ask(0, 2), Ok(Told { standing: Standing::Open, weight: 6, deficit: 0, waiting: 0 }));
     assert_eq!(memory.close(0, 2), Ok(Closed::Freed));
-    assert_eq!(memory.ask(64, 1), Err(Refusal::SlotAbove));
+    assert_eq!(memory.ask(64, 1), Err(Refusal::NoSlot));
 }
 
 #[test]
@@ -88,6 +90,7 @@ fn any_bytes_and_numbers() {
             bytes[random.below(LENGTH as u64) as usize] = random.number() as u8;
         }
         let mut memory = Memory::from_bytes(bytes);
+        assert_eq!(memory.is_sound(), is_sound_memory(&bytes));
         let mut number = || random.number() as u32;
         let _ = memory.open(number());
         let _ = memory.put(number(), number(), number(), number());
@@ -95,7 +98,34 @@ fn any_bytes_and_numbers() {
         let _ = memory.next();
         let _ = memory.ask(number() % 65, number());
         let _ = (lead(number(), number(), number(), number()), term(number(), number()));
-        assert_eq!(memory.start(), Ok(()));
+        memory.start();
         assert_eq!(memory.bytes(), &[0; LENGTH]);
     }
+}
+
+/// Ask takes a memory that is only lent to be read.
+#[test]
+fn ask_reads_alone() {
+    let bytes: [u8; LENGTH] = to_bytes(&states::rich()).try_into().unwrap();
+    let memory = Memory::from_bytes(bytes);
+    assert!(memory.is_sound());
+    assert!((0..64).any(|slot| memory.ask(slot, 1).is_ok()));
+    assert_eq!(memory.bytes(), &bytes);
+}
+
+#[test]
+fn a_refusal_is_an_error_with_a_text_of_its_own() {
+    let texts: Vec<String> = Refusal::ALL.iter().map(|refusal| (refusal as &dyn Error).to_string()).collect();
+    assert!(texts.iter().enumerate().all(|(place, text)| !text.is_empty() && !texts[..place].contains(text)), "{texts:?}");
+    for number in 0..20 {
+        assert_eq!(Refusal::from_number(number).map(Refusal::number), (1..=11).contains(&number).then_some(number));
+    }
+}
+
+#[test]
+fn a_memory_is_shown_in_a_few_words() {
+    let mut bytes = [0; LENGTH];
+    assert_eq!(format!("{:?}", Memory::from_bytes(bytes)), "Memory { length: 7040, sound: true, .. }");
+    bytes[LENGTH - 1] = 1;
+    assert_eq!(format!("{:?}", Memory::from_bytes(bytes)), "Memory { length: 7040, sound: false, .. }");
 }

@@ -1,4 +1,4 @@
-//! How long the exported calls take: `bench [plot.svg]`. Prints one table; with a path, draws it there too.
+//! How long the exported calls take: `bench [--beside path/to/another/libdriver.a]`. Prints a table; docs/SPEED.md has it, and its picture is drawn from there.
 //!
 //! All columns are measured in turn in the same run and are medians over many batches, so that their ratios mean something on any machine:
 //! - call: Next and Put in pairs, so that the fill stays the same, per call;
@@ -7,38 +7,62 @@
 //! - read: the bytes of the memory taken together by `or`, once;
 //! - plain check: the memory checked record by record, straight on the bytes;
 //! - plain call: the independent scheduler's Next and Put with that check before each. It writes no bytes, which favours it.
+//!
+//! With another archive its call, next and check are measured between those of the linked one, and a second table has both and their ratios.
 
 use std::env;
 use std::fmt::Write;
 use std::hint::black_box;
+use std::path::Path;
+use std::process::ExitCode;
 use std::time::Instant;
 
-use host::answers::Sent;
+use host::answers::{Fields, Sent};
 use host::check::record_by_record;
-use host::driver::{Linked, Memory};
 use host::engine::Engine;
 use host::layout;
+use host::linked::{Entries, LINKED};
+use host::model::answer_fields;
+use host::pictures::speed::NAMES;
 use host::scheduler::Scheduler;
 
 const BATCHES: usize = 301;
 /// Repetitions in a batch.
 const TIMES: usize = 200;
 const FILLS: [(u32, u32); 5] = [(0, 0), (4, 8), (16, 8), (64, 8), (64, 16)];
-const NAMES: [&str; 6] = ["call", "next", "check", "read", "plain check", "plain call"];
-const COLOURS: [&str; 6] = ["#0072b2", "#56b4e9", "#009e73", "#999999", "#e69f00", "#d55e00"];
 
-/// Nanoseconds, by the names above; none where there is nothing to send.
-type Line = [Option<f64>; 6];
+/// Nanoseconds of three of the columns; none where there is nothing to send.
+type Three = [Option<f64>; 3];
 
-fn main() {
-    let lines: Vec<Line> = FILLS.iter().map(|&(channels, records)| measured(channels, records)).collect();
-    print!("{}", table(&lines));
-    if let Some(path) = env::args().nth(1) {
-        if let Err(error) = std::fs::write(&path, plot(&lines)) {
-            eprintln!("{path}: {error}");
-            std::process::exit(1);
+/// What is measured of one fill: call, next and check of each archive, and read, plain check and plain call.
+struct Line {
+    exported: Vec<Three>,
+    plain: Three,
+}
+
+fn main() -> ExitCode {
+    let words: Vec<String> = env::args().skip(1).collect();
+    let mut archives = vec![LINKED];
+    match &words.iter().map(String::as_str).collect::<Vec<_>>()[..] {
+        [] => {}
+        ["--beside", archive] => match Entries::of_archive(Path::new(archive)) {
+            Ok(other) => archives.push(other),
+            Err(error) => {
+                eprintln!("{error}");
+                return ExitCode::FAILURE;
+            }
+        },
+        _ => {
+            eprintln!("bench [--beside path/to/another/libdriver.a]");
+            return ExitCode::from(2);
         }
     }
+    let lines: Vec<Line> = FILLS.iter().map(|&(channels, records)| measured(channels, records, &archives)).collect();
+    print!("{}", table(&lines));
+    if archives.len() > 1 {
+        print!("\n{}", beside(&lines));
+    }
+    ExitCode::SUCCESS
 }
 
 /// Channels of many weights, each with so many records of many lengths.
@@ -54,23 +78,23 @@ fn filled(channels: u32, records: u32) -> Scheduler {
     scheduler
 }
 
-fn measured(channels: u32, records: u32) -> Line {
+fn measured(channels: u32, records: u32, archives: &[Entries]) -> Line {
     let mut scheduler = filled(channels, records);
     let bytes = layout::to_bytes(&scheduler);
-    let mut memory = Memory::from_bytes(bytes.clone().try_into().expect("the layout's length"));
-    let mut lent = bytes.clone();
-    let mut times: [Vec<f64>; 6] = Default::default();
+    let mut sides: Vec<Side> =
+        archives.iter().map(|&entries| Side { entries, memory: bytes.clone(), lent: bytes.clone(), times: Default::default() }).collect();
+    let mut plain: [Vec<f64>; 3] = Default::default();
     for _ in 0..BATCHES {
-        if channels > 0 {
-            times[0].push(batch(2, || linked_pair(&mut memory)));
-            times[1].push(next_alone(&mut memory));
-            times[5].push(batch(2, || plain_pair(&mut scheduler, &bytes)));
+        for side in &mut sides {
+            side.measure(channels > 0);
         }
-        times[2].push(batch(1, || refused(&mut lent)));
-        times[3].push(batch(1, || read(&bytes)));
-        times[4].push(batch(1, || assert!(record_by_record(black_box(&bytes)))));
+        plain[0].push(batch(1, || read(&bytes)));
+        plain[1].push(batch(1, || assert!(record_by_record(black_box(&bytes)))));
+        if channels > 0 {
+            plain[2].push(batch(2, || plain_pair(&mut scheduler, &bytes)));
+        }
     }
-    times.map(median)
+    Line { exported: sides.into_iter().map(|side| side.times.map(median)).collect(), plain: plain.map(median) }
 }
 
 /// Nanoseconds for each of the calls that one repetition makes.
@@ -82,28 +106,66 @@ fn batch(calls: usize, mut repetition: impl FnMut()) -> f64 {
     begin.elapsed().as_nanos() as f64 / (TIMES * calls) as f64
 }
 
-/// Nanoseconds of a Next.
-fn next_alone(memory: &mut Memory) -> f64 {
-    let mut nanoseconds = 0;
-    for _ in 0..TIMES / 4 {
-        let begin = Instant::now();
-        let sent: [Sent; 4] = std::array::from_fn(|_| memory.next().expect("a record waits"));
-        nanoseconds += begin.elapsed().as_nanos();
-        for record in sent {
-            memory.put(record.slot, record.ticket, record.length, record.reference).expect("there is room");
-        }
-    }
-    nanoseconds as f64 / TIMES as f64
-}
-
 fn median(mut times: Vec<f64>) -> Option<f64> {
     times.sort_by(f64::total_cmp);
     times.get(times.len() / 2).copied()
 }
 
-fn linked_pair(memory: &mut Memory) {
-    let sent = memory.next().expect("a record waits");
-    black_box(memory.put(sent.slot, sent.ticket, sent.length, sent.reference).expect("there is room"));
+/// One archive under measurement.
+struct Side {
+    entries: Entries,
+    /// The memory that is sent from and put into, and one that only a refused call is lent.
+    memory: Vec<u8>,
+    lent: Vec<u8>,
+    times: [Vec<f64>; 3],
+}
+
+impl Side {
+    fn measure(&mut self, sends: bool) {
+        if sends {
+            let pairs = batch(2, || self.pair());
+            self.times[0].push(pairs);
+            let nexts = self.next_alone();
+            self.times[1].push(nexts);
+        }
+        let checks = batch(1, || self.refused());
+        self.times[2].push(checks);
+    }
+
+    fn next(&mut self) -> Sent {
+        let mut answer = [0; 28];
+        assert_eq!(self.entries.next(&mut self.memory, &mut answer), 0);
+        let mut fields = answer_fields(&answer);
+        Sent::of(&[(); 7].map(|_| fields.next().unwrap_or(0))).expect("an answer of Next")
+    }
+
+    fn put(&mut self, sent: Sent) {
+        let mut answer = [0; 8];
+        assert_eq!(self.entries.put(&mut self.memory, sent.slot, sent.ticket, sent.length, sent.reference, &mut answer), 0);
+        black_box(answer);
+    }
+
+    fn pair(&mut self) {
+        let sent = self.next();
+        self.put(sent);
+    }
+
+    /// Nanoseconds of a Next.
+    fn next_alone(&mut self) -> f64 {
+        let mut nanoseconds = 0;
+        for _ in 0..TIMES / 4 {
+            let begin = Instant::now();
+            let sent: [Sent; 4] = std::array::from_fn(|_| self.next());
+            nanoseconds += begin.elapsed().as_nanos();
+            sent.into_iter().for_each(|sent| self.put(sent));
+        }
+        nanoseconds as f64 / TIMES as f64
+    }
+
+    fn refused(&mut self) {
+        let mut answer = [0; 16];
+        assert_eq!(black_box(self.entries.ask(&mut self.lent, 64, 1, &mut answer)), 1);
+    }
 }
 
 fn plain_pair(scheduler: &mut Scheduler, bytes: &[u8]) {
@@ -113,68 +175,45 @@ fn plain_pair(scheduler: &mut Scheduler, bytes: &[u8]) {
     black_box(scheduler.put_sound(sent.slot, sent.ticket, sent.length, sent.reference).expect("there is room"));
 }
 
-fn refused(lent: &mut [u8]) {
-    let mut answer = [0; 16];
-    assert_eq!(black_box(Linked.ask(lent, 64, 1, &mut answer)), 1);
-}
-
 fn read(bytes: &[u8]) {
     black_box(black_box(bytes).iter().fold(0, |all, &byte| all | byte));
 }
 
-fn table(lines: &[Line]) -> String {
-    let mut text = String::from("nanoseconds, medians; a call is half of a Next and Put pair\n\n| channels x records |");
-    for name in NAMES {
-        let _ = write!(text, " {name} |");
-    }
-    text += " call / read | next / read | check / read | check / plain check | call / plain call |\n";
-    text += &("|---".repeat(12) + "|\n");
+/// A row of a table for each fill.
+fn rows(heads: &[&str], cells: impl Fn(&Line) -> Vec<String>, lines: &[Line]) -> String {
+    let mut text = format!("| channels x records | {} |\n{}|\n", heads.join(" | "), "|---".repeat(heads.len() + 1));
     for (&(channels, records), line) in FILLS.iter().zip(lines) {
-        let _ = write!(text, "| {channels} x {records} |");
-        for time in line {
-            let _ = write!(text, " {} |", shown(*time, 0));
-        }
-        for (over, under) in [(0, 3), (1, 3), (2, 3), (2, 4), (0, 5)] {
-            let ratio = line[over].zip(line[under]).map(|(over, under)| over / under);
-            let _ = write!(text, " {} |", shown(ratio, 2));
-        }
-        text.push('\n');
+        let _ = writeln!(text, "| {channels} x {records} | {} |", cells(line).join(" | "));
     }
     text
 }
 
-fn shown(number: Option<f64>, places: usize) -> String {
-    number.map_or("-".to_string(), |number| format!("{number:.places$}"))
+fn table(lines: &[Line]) -> String {
+    let ratios = ["call / read", "next / read", "check / read", "check / plain check", "call / plain call"];
+    let cells = |line: &Line| {
+        let times: Vec<Option<f64>> = line.exported[0].into_iter().chain(line.plain).collect();
+        let ratios = [(0, 3), (1, 3), (2, 3), (2, 4), (0, 5)].map(|(over, under)| ratio(times[over], times[under]));
+        times.into_iter().map(|time| shown(time, 0)).chain(ratios).collect()
+    };
+    let text = rows(&NAMES.into_iter().chain(ratios).collect::<Vec<_>>(), cells, lines);
+    format!("nanoseconds, medians; a call is half of a Next and Put pair\n\n{text}")
 }
 
-/// Groups of bars, one group a fill, in nanoseconds from 0.
-fn plot(lines: &[Line]) -> String {
-    let most = lines.iter().flatten().flatten().fold(1.0, |most: f64, &time| most.max(time));
-    let (group, bar, height) = (174, 26, 300.0);
-    let width = 70 + group * lines.len();
-    let mut svg = format!(
-        "<svg xmlns=\"http://www.w3.org/2000/svg\" width=\"{width}\" height=\"420\" font-family=\"sans-serif\" font-size=\"12\">\n\
-         <rect width=\"{width}\" height=\"420\" fill=\"white\"/>\n<text x=\"10\" y=\"18\">nanoseconds, by channels x records</text>\n"
-    );
-    for (number, (name, colour)) in NAMES.iter().zip(COLOURS).enumerate() {
-        let x = 10 + 120 * number;
-        let _ = writeln!(
-            svg,
-            "<rect x=\"{x}\" y=\"28\" width=\"12\" height=\"12\" fill=\"{colour}\"/><text x=\"{}\" y=\"39\">{name}</text>",
-            x + 16
-        );
-    }
-    for (place, (&(channels, records), line)) in FILLS.iter().zip(lines).enumerate() {
-        let left = 20 + group * place;
-        for (number, time) in line.iter().enumerate() {
-            let Some(time) = time else { continue };
-            let (x, tall) = (left + bar * number, height * time / most);
-            let y = 380.0 - tall;
-            let _ = writeln!(svg, "<rect x=\"{x}\" y=\"{y:.1}\" width=\"{}\" height=\"{tall:.1}\" fill=\"{}\"/>", bar - 3, COLOURS[number]);
-            let _ = writeln!(svg, "<text x=\"{x}\" y=\"{:.1}\" font-size=\"9\">{time:.0}</text>", y - 3.0);
-        }
-        let _ = writeln!(svg, "<text x=\"{left}\" y=\"398\">{channels} x {records}</text>");
-    }
-    svg += "</svg>\n";
-    svg
+/// The linked archive and the other, column by column.
+fn beside(lines: &[Line]) -> String {
+    let heads = NAMES[..3].iter().flat_map(|name| [name.to_string(), format!("{name} beside"), "ratio".to_string()]).collect::<Vec<_>>();
+    let cells = |line: &Line| {
+        let pairs = line.exported[0].into_iter().zip(line.exported[1]);
+        pairs.flat_map(|(own, other)| [shown(own, 0), shown(other, 0), ratio(own, other)]).collect()
+    };
+    let text = rows(&heads.iter().map(String::as_str).collect::<Vec<_>>(), cells, lines);
+    format!("the linked archive and the one beside it, and the linked one's time divided by the other's\n\n{text}")
+}
+
+fn ratio(over: Option<f64>, under: Option<f64>) -> String {
+    shown(over.zip(under).map(|(over, under)| over / under), 2)
+}
+
+fn shown(number: Option<f64>, places: usize) -> String {
+    number.map_or("-".to_string(), |number| format!("{number:.places$}"))
 }

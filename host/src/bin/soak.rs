@@ -10,7 +10,7 @@ use std::time::{Duration, Instant};
 use host::compare::run_seeds;
 
 #[cfg(feature = "linked")]
-const ENGINE: (&str, host::driver::Linked) = ("the exported library", host::driver::Linked);
+const ENGINE: (&str, host::linked::Entries) = ("the exported library", host::linked::LINKED);
 #[cfg(not(feature = "linked"))]
 const ENGINE: (&str, host::model::Model) = ("the model engine", host::model::Model);
 

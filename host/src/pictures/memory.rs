@@ -1,7 +1,7 @@
 //! docs/memory.svg: every field of the lent memory to scale, by the layout's table: lines of one byte a slot, the single numbers, planes of
 //! one byte a record.
 
-use super::svg::{grouped, solid, Picture, GREY, GROUNDS, HEAD, LEFT, MIDDLE, RIGHT};
+use super::svg::{grouped, solid, Picture, GREY, GROUNDS, HEAD, LEFT, MIDDLE, RIGHT, WHITE};
 use crate::layout::{Field, FIELDS, LENGTH, PLACES};
 use crate::scheduler::SLOTS;
 
@@ -14,11 +14,23 @@ const BYTE: f64 = 12.0;
 
 /// The file: the whole in one bar, then group by group.
 pub fn picture() -> String {
-    let mut picture = Picture::new(&format!("The lent memory: {} bytes", grouped(LENGTH as u64)), 860.0);
-    let subtitle = "Byte j of lane i of a field stands at start + lanes x j + i. The first bar has one scale, each group below its own.";
-    picture.words(LEFT, (20.0, 50.0), subtitle);
     let (slots, records) = (group(|lanes| lanes == SLOTS), group(|lanes| lanes == PLACES));
     let numbers = group(|lanes| lanes != SLOTS && lanes != PLACES);
+    let shows = format!(
+        "Every field of the memory to scale, from its first byte to its last: {} lines of {SLOTS} bytes for the slots ({}), {} bytes of single numbers ({}), and {} \
+         planes of {} bytes for the records ({}).",
+        count(&slots),
+        names(&slots),
+        span(&numbers).1 - span(&numbers).0,
+        names(&numbers),
+        count(&records),
+        grouped(PLACES as u64),
+        names(&records)
+    );
+    let mut picture = Picture::new(&format!("The lent memory: {} bytes", grouped(LENGTH as u64)), &shows, 860.0);
+    let subtitle = "Byte j of lane i of a field stands at start + lanes x j + i. The first bar has one scale, each group below its own.";
+    picture.words(LEFT, (20.0, 50.0), subtitle);
+    legend(&mut picture, 74.0);
     whole(&mut picture, 86.0, [("slots", &slots), ("single numbers", &numbers), ("records", &records)]);
     let head = format!("Slots: {} lines of {SLOTS} bytes, one lane a slot (of rows: one lane a row)", count(&slots));
     lines(&mut picture, 158.0, &head, &slots);
@@ -39,6 +51,11 @@ fn count(fields: &[&Field]) -> usize {
     fields.iter().map(|field| field.width).sum()
 }
 
+/// The fields of a group by name.
+fn names(fields: &[&Field]) -> String {
+    fields.iter().map(|field| field.name).collect::<Vec<_>>().join(", ")
+}
+
 /// Where a group begins and ends. Its fields follow each other.
 fn span(fields: &[&Field]) -> (usize, usize) {
     let end = |field: &&Field| field.start + field.length();
@@ -51,13 +68,25 @@ fn extent(field: &Field) -> String {
     format!("at {}, {} byte{}", grouped(field.start as u64), grouped(length as u64), if length == 1 { "" } else { "s" })
 }
 
+/// What the colours mean.
+fn legend(picture: &mut Picture, top: f64) {
+    let mut entry = |x: f64, fills: &[&str], means: &str| {
+        for (number, fill) in fills.iter().enumerate() {
+            picture.area((x + 16.0 * number as f64, top - 11.0), (14.0, 13.0), fill);
+        }
+        picture.words(LEFT, (x + 16.0 * fills.len() as f64 + 6.0, top), means);
+    };
+    entry(260.0, &GROUNDS, "in turn, only to tell each part from the next");
+    entry(590.0, &[WHITE], "stands for nothing: always 0");
+}
+
 /// The whole memory in one bar, all at one scale.
 fn whole(picture: &mut Picture, top: f64, groups: [(&str, &[&Field]); 3]) {
     let (left, scale) = (20.0, 860.0 / LENGTH as f64);
     for (number, (name, fields)) in groups.into_iter().enumerate() {
         let (start, end) = span(fields);
         let (x, width) = (left + scale * start as f64, scale * (end - start) as f64);
-        picture.area((x, top), (width, 22.0), if number == 1 { GREY } else { GROUNDS[0] });
+        picture.area((x, top), (width, 22.0), GROUNDS[number % 2]);
         // The group in the middle is too narrow for words: its name stands above it, and the places left and right of it.
         let name_at = if number == 1 { top - 6.0 } else { top + 15.0 };
         picture.words(MIDDLE, (x + width / 2.0, name_at), name);
@@ -111,7 +140,7 @@ fn single(picture: &mut Picture, top: f64, fields: &[&Field]) {
         let x = EDGE + BYTE * (field.start - start) as f64;
         let spare = number + 1 == fields.len();
         for byte in 0..field.length() {
-            let fill = if spare { "#ffffff" } else { GROUNDS[number % 2] };
+            let fill = if spare { WHITE } else { GROUNDS[number % 2] };
             picture.area((x + BYTE * byte as f64, bar), (BYTE, HIGH), fill);
         }
         let (leader, y) = (x + BYTE / 2.0, bar + HIGH + 16.0 * (fields.len() - number) as f64);
@@ -126,10 +155,11 @@ fn run(picture: &mut Picture, top: f64) {
     picture.words(RIGHT, (EDGE - 8.0, top + 14.0), "the run");
     let parts = [(170.0, "slot 0, oldest first"), (170.0, "slot 1, oldest first"), (40.0, ".."), (120.0, "slot 63"), (100.0, "zeros")];
     let mut x = EDGE;
-    for (width, words) in parts {
-        picture.area((x, top), (width, HIGH), "#ffffff");
+    for (number, (width, words)) in parts.into_iter().enumerate() {
+        let fill = if number + 1 == parts.len() { WHITE } else { GROUNDS[number % 2] };
+        picture.area((x, top), (width, HIGH), fill);
         picture.words(MIDDLE, (x + width / 2.0, top + 14.0), words);
         x += width;
     }
-    picture.words(LEFT, (x + 16.0, top + 14.0), "the records' order, not to scale");
+    picture.words(LEFT, (x + 16.0, top + 14.0), "their order, not to scale");
 }

@@ -1,14 +1,16 @@
-//! The pictures in docs/: drawn from runs of the exported calls and from the layout's table of fields, never from typed data.
+//! The pictures in docs/: drawn from runs of the exported calls, from the layout's table of fields and from the table that `bench` printed.
 //!
 //! - [`order`]: which channel sends when, smoothed and plain;
 //! - [`share`]: the bytes of each channel against its share, smoothed and plain;
 //! - [`memory`]: every field of the lent memory to scale;
+//! - [`speed`]: the times of docs/SPEED.md;
 //! - [`runs`]: what the first two are drawn from; [`svg`]: how all are written.
 
 pub mod memory;
 pub mod order;
 pub mod runs;
 pub mod share;
+pub mod speed;
 pub mod svg;
 
 /// Where the pictures are kept.
@@ -17,7 +19,13 @@ pub const FOLDER: &str = concat!(env!("CARGO_MANIFEST_DIR"), "/../docs");
 /// The command that writes them again, from host/.
 pub const COMMAND: &str = "cargo run --release --offline --features linked --bin pictures";
 
-/// Each picture's file in docs/ and its bytes, the same at each run.
-pub fn all() -> [(&'static str, String); 3] {
-    [("order.svg", order::picture()), ("share.svg", share::picture()), ("memory.svg", memory::picture())]
+/// Each picture's file in docs/ and its bytes, the same at each run. No times are drawn where docs/SPEED.md cannot be read.
+pub fn all() -> [(&'static str, String); 4] {
+    let times = speed::rows(&std::fs::read_to_string(format!("{FOLDER}/SPEED.md")).unwrap_or_default());
+    [
+        ("order.svg", order::picture()),
+        ("share.svg", share::picture()),
+        ("memory.svg", memory::picture()),
+        ("speed.svg", speed::picture(&times)),
+    ]
 }

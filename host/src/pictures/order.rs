@@ -1,7 +1,7 @@
 //! docs/order.svg: the first round of document 01's check 5, send by send, and the same channels under plain deficit round robin.
 
 use super::runs::{plain, smoothed, Load, Scan, Sending};
-use super::svg::{grouped, listed, solid, Pair, Picture, CHANNELS, GREY, HEAD, LEFT, MIDDLE, PALE, RIGHT};
+use super::svg::{grouped, listed, solid, Pair, Picture, CHANNELS, GREY, HEAD, LEFT, MIDDLE, PALE, RIGHT, WHITE};
 use crate::scheduler::GRANT;
 
 /// Document 01, check 5: "Weights 1, 4, 8, 3 in slots 0 to 3, joined so, 16 records of 1,024 each".
@@ -19,7 +19,8 @@ pub fn picture() -> String {
     let round = LOAD.round();
     let bytes = grouped(u64::from(LOAD.length));
     let title = format!("Which channel sends when: weights {}, records of {bytes} bytes", listed(LOAD.weights));
-    let mut picture = Picture::new(&title, 530.0);
+    let shows = "Two charts, one row a channel, one box a send. Smoothed, the channels take turns over the round. Plain, each sends all its records of the round in one go.";
+    let mut picture = Picture::new(&title, shows, 530.0);
     let subtitle =
         format!("The first round, {round} sends, of document 01's check 5: {} records wait on each channel at the start.", LOAD.records);
     picture.words(LEFT, (20.0, 50.0), &subtitle);
@@ -52,7 +53,7 @@ fn strip(picture: &mut Picture, top: f64, scans: &[Scan]) {
         let ((x, _), width) = (place(top, 0, send), SEND * scan.len() as f64);
         for (line, number) in [scan[0].term, scan[0].column].into_iter().enumerate() {
             let y = top + 20.0 * line as f64;
-            picture.area((x, y), (width, 20.0), "#ffffff");
+            picture.area((x, y), (width, 20.0), WHITE);
             picture.words(MIDDLE, (x + width / 2.0, y + 14.0), &number.to_string());
         }
         send += scan.len();

@@ -1,6 +1,7 @@
 //! What pictures of sends are drawn from: the exported calls, and plain deficit round robin, on the same channels.
 
-use crate::driver::{term, Memory};
+use uplink::{term, Memory};
+
 use crate::layout;
 use crate::plain::Plain;
 

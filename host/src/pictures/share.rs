@@ -28,7 +28,9 @@ pub struct Farthest {
 /// The file: two plots with the same axes.
 pub fn picture() -> String {
     let title = format!("Bytes sent against the ideal share: weights {}", listed(LOAD.weights));
-    let mut picture = Picture::new(&title, 530.0);
+    let shows = "Two plots of the bytes sent by each channel over those sent by all, with a straight ideal line for each. Smoothed, the curves stay close to \
+                 the lines. Plain, they leave them by several records and meet them at the end of a round.";
+    let mut picture = Picture::new(&title, shows, 530.0);
     let subtitle = format!(
         "{ROUNDS} rounds of {} sends. At the start {} records of {} bytes wait on each channel, so that none runs empty.",
         LOAD.round(),

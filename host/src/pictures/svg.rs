@@ -10,6 +10,7 @@ pub const WIDTH: f64 = 900.0;
 pub const CHANNELS: [&str; 4] = ["#0072b2", "#e69f00", "#009e73", "#cc79a7"];
 /// Two lighter ones of theirs, under black words: sky blue and yellow.
 pub const GROUNDS: [&str; 2] = ["#56b4e9", "#f0e442"];
+pub const WHITE: &str = "#ffffff";
 pub const BLACK: &str = "#000000";
 pub const GREY: &str = "#767676";
 pub const PALE: &str = "#dddddd";
@@ -29,6 +30,7 @@ pub const TITLE: Face = Face { size: 17, weight: "bold", anchor: "start" };
 pub const HEAD: Face = Face { size: 14, weight: "bold", anchor: "start" };
 pub const LEFT: Face = Face { size: 12, weight: "normal", anchor: "start" };
 pub const MIDDLE: Face = Face { size: 12, weight: "normal", anchor: "middle" };
+pub const SMALL: Face = Face { size: 9, weight: "normal", anchor: "middle" };
 pub const RIGHT: Face = Face { size: 12, weight: "normal", anchor: "end" };
 
 /// How a line is drawn: its colour, its width, and the lengths of its dashes and gaps (none for a solid one).
@@ -55,13 +57,14 @@ pub struct Picture {
 }
 
 impl Picture {
-    /// A white picture of this height; its title stands at the top and is what a screen reader says.
-    pub fn new(title: &str, height: f64) -> Picture {
-        let (width, height, title_read) = (shown(WIDTH), shown(height), escaped(title));
+    /// A white picture of this height; its title stands at the top. A screen reader says the title, and then what the picture shows.
+    pub fn new(title: &str, shows: &str, height: f64) -> Picture {
+        let (width, height, title_read, shows) = (shown(WIDTH), shown(height), escaped(title), escaped(shows));
         let text = format!(
             "<svg xmlns=\"http://www.w3.org/2000/svg\" width=\"{width}\" height=\"{height}\" viewBox=\"0 0 {width} {height}\" role=\"img\" \
-             font-family=\"system-ui, 'Segoe UI', Helvetica, Arial, sans-serif\">\n<title>{title_read}</title>\n\
-             <rect width=\"{width}\" height=\"{height}\" fill=\"#ffffff\"/>\n"
+             aria-labelledby=\"title shows\" font-family=\"system-ui, 'Segoe UI', Helvetica, Arial, sans-serif\">\n\
+             <title id=\"title\">{title_read}</title>\n<desc id=\"shows\">{shows}</desc>\n\
+             <rect width=\"{width}\" height=\"{height}\" fill=\"{WHITE}\"/>\n"
         );
         let mut picture = Picture { text };
         picture.words(TITLE, (20.0, 30.0), title);

@@ -1,8 +1,8 @@
 //! The engine under test: the exported library with feature `linked`, else the model engine.
 
 #[cfg(feature = "linked")]
-pub fn engine() -> host::driver::Linked {
-    host::driver::Linked
+pub fn engine() -> host::linked::Entries {
+    host::linked::LINKED
 }
 
 #[cfg(not(feature = "linked"))]

@@ -108,7 +108,7 @@ impl Wrong {
     fn open_call(&self, scheduler: &mut Scheduler, weight: u32) -> Result<Opened, Refusal> {
         let can_open = scheduler.channels.iter().any(|channel| channel.kind == Kind::Free && channel.ticket != LAST_TICKET);
         if self.is(Slip::SevenBeforeSix) && !can_open {
-            return Err(Refusal::NoSlot);
+            return Err(Refusal::NoneFree);
         }
         let opened = scheduler.open_sound(weight)?;
         if self.is(Slip::TicketReused) && opened.ticket > 1 {
@@ -136,7 +136,7 @@ impl Wrong {
     /// Next with its steps as in the scheduler, and the slips between them.
     fn next_call(&self, scheduler: &mut Scheduler) -> Result<Sent, Refusal> {
         if scheduler.rows.is_empty() {
-            return Err(Refusal::NothingWaits);
+            return Err(Refusal::NoneWaits);
         }
         let (slot, started, terms) = self.choose(scheduler)?;
         let channel = &scheduler.channels[slot];
@@ -161,7 +161,7 @@ impl Wrong {
         let listed = |slot: &usize| scheduler.scan.to_visit.contains(slot);
         let first =
             if self.is(Slip::SlotOrder) { scheduler.scan.to_visit.first().copied() } else { scheduler.rows.iter().copied().find(listed) };
-        let first = first.ok_or(Refusal::EmptyColumns)?;
+        let first = first.ok_or(Refusal::NoRow)?;
         let column = scheduler.scan.column;
         scheduler.start_visit(first);
         if self.is(Slip::ColumnKept) {
@@ -210,7 +210,7 @@ impl Engine for Wrong {
                     Err(Refusal::BadLength) if self.is(Slip::FiveBeforeFour) && before.channels[slot as usize].records.len() == 16 => {
                         return Err(Refusal::Full);
                     }
-                    Err(Refusal::IsClosing) if self.is(Slip::FourBeforeThree) && !(1..=1_024).contains(&length) => {
+                    Err(Refusal::AtClosing) if self.is(Slip::FourBeforeThree) && !(1..=1_024).contains(&length) => {
                         return Err(Refusal::BadLength);
                     }
                     _ => {}

@@ -1,0 +1,123 @@
+//! The exported C entries as an engine under test: those that this program is linked with, and those of another archive beside them.
+
+use std::ffi::{c_char, c_int, c_void, CStr, CString};
+use std::path::Path;
+use std::process::Command;
+
+use uplink::entries::{uplink_ask, uplink_close, uplink_lead, uplink_next, uplink_open, uplink_put, uplink_start, uplink_term};
+
+use crate::engine::Engine;
+
+/// The entries of one archive. Any lengths may be lent to them.
+///
+/// Each call is safe: pointer and length are those of a slice that is lent for the call alone, and two exclusive slices never overlap. Ask too
+/// is lent memory that it could write, so that the comparer would see it.
+#[derive(Clone, Copy)]
+pub struct Entries {
+    start: Start,
+    open: Open,
+    put: Put,
+    close: Close,
+    next: Next,
+    ask: Ask,
+    lead: Lead,
+    term: Term,
+}
+
+type Start = unsafe extern "C" fn(*mut u8, usize) -> u32;
+type Open = unsafe extern "C" fn(*mut u8, usize, u32, *mut u8, usize) -> u32;
+type Put = unsafe extern "C" fn(*mut u8, usize, u32, u32, u32, u32, *mut u8, usize) -> u32;
+type Close = unsafe extern "C" fn(*mut u8, usize, u32, u32, *mut u8, usize) -> u32;
+type Next = unsafe extern "C" fn(*mut u8, usize, *mut u8, usize) -> u32;
+type Ask = unsafe extern "C" fn(*const u8, usize, u32, u32, *mut u8, usize) -> u32;
+type Lead = unsafe extern "C" fn(u32, u32, u32, u32, *mut u8, usize) -> u32;
+type Term = unsafe extern "C" fn(u32, u32, *mut u8, usize) -> u32;
+
+/// The entries that this program is linked with.
+pub const LINKED: Entries = Entries {
+    start: uplink_start,
+    open: uplink_open,
+    put: uplink_put,
+    close: uplink_close,
+    next: uplink_next,
+    ask: uplink_ask,
+    lead: uplink_lead,
+    term: uplink_term,
+};
+
+extern "C" {
+    fn dlopen(file: *const c_char, flags: c_int) -> *mut c_void;
+    fn dlsym(library: *mut c_void, name: *const c_char) -> *mut c_void;
+}
+
+impl Entries {
+    /// The entries of another libdriver.a, of the same interface: it is made a shared library (by `cc`) and loaded, for as long as the program runs.
+    pub fn of_archive(archive: &Path) -> Result<Entries, String> {
+        let shared = std::env::temp_dir().join(format!("libdriver-{}.so", std::process::id()));
+        let mut link = Command::new("cc");
+        link.args(["-shared", "-Wl,-Bsymbolic", "-o"]).arg(&shared).arg("-Wl,--whole-archive").arg(archive).arg("-Wl,--no-whole-archive");
+        let status = link.status().map_err(|error| format!("cc: {error}"))?;
+        if !status.success() {
+            return Err(format!("{}: cc makes no shared library of it", archive.display()));
+        }
+        let file = CString::new(shared.as_os_str().as_encoded_bytes()).map_err(|error| error.to_string())?;
+        const NOW: c_int = 2;
+        let library = unsafe { dlopen(file.as_ptr(), NOW) };
+        let _ = std::fs::remove_file(&shared);
+        if library.is_null() {
+            return Err(format!("{}: it cannot be loaded", archive.display()));
+        }
+        let symbol = |name: &CStr| match unsafe { dlsym(library, name.as_ptr()) } {
+            none if none.is_null() => Err(format!("{}: no {}", archive.display(), name.to_string_lossy())),
+            found => Ok(found),
+        };
+        // Each has the type that its name has in the header.
+        unsafe {
+            use std::mem::transmute as as_entry;
+            Ok(Entries {
+                start: as_entry::<*mut c_void, Start>(symbol(c"uplink_start")?),
+                open: as_entry::<*mut c_void, Open>(symbol(c"uplink_open")?),
+                put: as_entry::<*mut c_void, Put>(symbol(c"uplink_put")?),
+                close: as_entry::<*mut c_void, Close>(symbol(c"uplink_close")?),
+                next: as_entry::<*mut c_void, Next>(symbol(c"uplink_next")?),
+                ask: as_entry::<*mut c_void, Ask>(symbol(c"uplink_ask")?),
+                lead: as_entry::<*mut c_void, Lead>(symbol(c"uplink_lead")?),
+                term: as_entry::<*mut c_void, Term>(symbol(c"uplink_term")?),
+            })
+        }
+    }
+}
+
+impl Engine for Entries {
+    fn start(&mut self, state: &mut [u8]) -> u32 {
+        unsafe { (self.start)(state.as_mut_ptr(), state.len()) }
+    }
+
+    fn open(&mut self, state: &mut [u8], weight: u32, answer: &mut [u8]) -> u32 {
+        unsafe { (self.open)(state.as_mut_ptr(), state.len(), weight, answer.as_mut_ptr(), answer.len()) }
+    }
+
+    fn put(&mut self, state: &mut [u8], slot: u32, ticket: u32, length: u32, reference: u32, answer: &mut [u8]) -> u32 {
+        unsafe { (self.put)(state.as_mut_ptr(), state.len(), slot, ticket, length, reference, answer.as_mut_ptr(), answer.len()) }
+    }
+
+    fn close(&mut self, state: &mut [u8], slot: u32, ticket: u32, answer: &mut [u8]) -> u32 {
+        unsafe { (self.close)(state.as_mut_ptr(), state.len(), slot, ticket, answer.as_mut_ptr(), answer.len()) }
+    }
+
+    fn next(&mut self, state: &mut [u8], answer: &mut [u8]) -> u32 {
+        unsafe { (self.next)(state.as_mut_ptr(), state.len(), answer.as_mut_ptr(), answer.len()) }
+    }
+
+    fn ask(&mut self, state: &mut [u8], slot: u32, ticket: u32, answer: &mut [u8]) -> u32 {
+        unsafe { (self.ask)(state.as_mut_ptr(), state.len(), slot, ticket, answer.as_mut_ptr(), answer.len()) }
+    }
+
+    fn lead(&mut self, w1: u32, v1: u32, w2: u32, v2: u32, answer: &mut [u8]) -> u32 {
+        unsafe { (self.lead)(w1, v1, w2, v2, answer.as_mut_ptr(), answer.len()) }
+    }
+
+    fn term(&mut self, order: u32, position: u32, answer: &mut [u8]) -> u32 {
+        unsafe { (self.term)(order, position, answer.as_mut_ptr(), answer.len()) }
+    }
+}

@@ -1,0 +1,121 @@
+//! The order of an entry's parameters is in no contract: an engine that takes two of them in each other's place is found by the compared runs.
+//! host/slips.py exchanges them in the code itself.
+
+mod common;
+mod rattle;
+
+use std::mem::{discriminant, swap};
+
+use host::compare::run_seeds;
+use host::engine::Engine;
+use host::history::Call;
+use rattle::{functions, source};
+
+/// Each entry with a call of its kind.
+const ENTRIES: [(&str, Call); 8] = [
+    ("uplink_start", Call::Start),
+    ("uplink_open", Call::Open { weight: 0 }),
+    ("uplink_put", Call::Put { slot: 0, ticket: 0, length: 0, reference: 0 }),
+    ("uplink_close", Call::Close { slot: 0, ticket: 0 }),
+    ("uplink_next", Call::Next),
+    ("uplink_ask", Call::Ask { slot: 0, ticket: 0 }),
+    ("uplink_term", Call::Term { order: 0, position: 0 }),
+    ("uplink_lead", Call::Lead { w1: 0, v1: 0, w2: 0, v2: 0 }),
+];
+
+/// What is taken in each other's place.
+#[derive(Clone, Copy, Debug)]
+enum Two {
+    Numbers(usize, usize),
+    StateAndAnswer,
+}
+
+/// The engine under test with two parameters of one kind of call exchanged.
+struct Exchanged {
+    of: Call,
+    two: Two,
+}
+
+impl Exchanged {
+    fn made(&self, mut call: Call, state: &mut [u8], answer: &mut [u8]) -> u32 {
+        let mut engine = common::engine();
+        if discriminant(&call) != discriminant(&self.of) {
+            return engine.call(&call, state, answer);
+        }
+        match self.two {
+            Two::Numbers(one, other) => {
+                let mut numbers = call.numbers();
+                let (before, after) = numbers.split_at_mut(other);
+                swap(before[one], after[0]);
+                engine.call(&call, state, answer)
+            }
+            Two::StateAndAnswer => engine.call(&call, answer, state),
+        }
+    }
+}
+
+impl Engine for Exchanged {
+    fn start(&mut self, state: &mut [u8]) -> u32 {
+        self.made(Call::Start, state, &mut [])
+    }
+
+    fn open(&mut self, state: &mut [u8], weight: u32, answer: &mut [u8]) -> u32 {
+        self.made(Call::Open { weight }, state, answer)
+    }
+
+    fn put(&mut self, state: &mut [u8], slot: u32, ticket: u32, length: u32, reference: u32, answer: &mut [u8]) -> u32 {
+        self.made(Call::Put { slot, ticket, length, reference }, state, answer)
+    }
+
+    fn close(&mut self, state: &mut [u8], slot: u32, ticket: u32, answer: &mut [u8]) -> u32 {
+        self.made(Call::Close { slot, ticket }, state, answer)
+    }
+
+    fn next(&mut self, state: &mut [u8], answer: &mut [u8]) -> u32 {
+        self.made(Call::Next, state, answer)
+    }
+
+    fn ask(&mut self, state: &mut [u8], slot: u32, ticket: u32, answer: &mut [u8]) -> u32 {
+        self.made(Call::Ask { slot, ticket }, state, answer)
+    }
+
+    fn lead(&mut self, w1: u32, v1: u32, w2: u32, v2: u32, answer: &mut [u8]) -> u32 {
+        self.made(Call::Lead { w1, v1, w2, v2 }, &mut [], answer)
+    }
+
+    fn term(&mut self, order: u32, position: u32, answer: &mut [u8]) -> u32 {
+        self.made(Call::Term { order, position }, &mut [], answer)
+    }
+}
+
+/// Every two numbers of an entry, and state and answer where it has both.
+fn exchanges(mut call: Call) -> Vec<Two> {
+    let count = call.numbers().len();
+    let mut found: Vec<Two> = (0..count).flat_map(|other| (0..other).map(move |one| Two::Numbers(one, other))).collect();
+    if call.takes_state() && call.takes_answer() {
+        found.push(Two::StateAndAnswer);
+    }
+    found
+}
+
+#[test]
+fn every_exchange_is_found() {
+    let mut tried = 0;
+    for (entry, of) in ENTRIES {
+        for two in exchanges(of) {
+            let found = run_seeds(&mut Exchanged { of, two }, 1, 200_000);
+            assert!(found.is_err(), "{entry}: {two:?} exchanged, and no difference");
+            tried += 1;
+        }
+    }
+    assert_eq!(tried, 20);
+}
+
+/// The calls here have as many numbers as the entries of the code.
+#[test]
+fn every_parameter_is_tried() {
+    let entries = functions(&source("driver/src/lib.rt")).into_iter().filter(|function| function.exported);
+    let numbers = entries.map(|entry| (entry.name, entry.parameters.iter().filter(|(_, kind)| kind == "u32").count()));
+    let tried = ENTRIES.map(|(entry, mut call)| (entry.to_string(), call.numbers().len()));
+    assert_eq!(numbers.collect::<Vec<_>>(), tried);
+}

@@ -1,0 +1,14 @@
+#![doc = include_str!("../README.md")]
+//!
+//! - [`Memory`]: the calls on a state; [`lead`] and [`term`] take none.
+//! - What they answer: [`Opened`], [`Added`], [`Closed`], [`Sent`], [`Told`], or a [`Refusal`].
+//! - [`entries`]: the C entries themselves, for bytes that are kept elsewhere.
+
+mod answers;
+pub mod entries;
+mod memory;
+mod refusal;
+
+pub use answers::{Added, Closed, Opened, Sent, Standing, Told};
+pub use memory::{lead, term, Memory};
+pub use refusal::Refusal;

@@ -1,0 +1,79 @@
+//! Why a call is refused, by the names and numbers of include/uplink.h.
+
+use std::error::Error;
+use std::fmt;
+
+/// Why a call is refused. The discriminant is the number.
+#[derive(Clone, Copy, Debug, PartialEq, Eq, Hash)]
+pub enum Refusal {
+    /// Slot above 63.
+    NoSlot = 1,
+    /// Slot free, or ticket not its present one.
+    NotPresent = 2,
+    /// Channel is closing.
+    AtClosing = 3,
+    /// Length 0 or above 1,024.
+    BadLength = 4,
+    /// 16 records wait already.
+    Full = 5,
+    /// Weight 0 or above 4,095.
+    BadWeight = 6,
+    /// No slot can be opened.
+    NoneFree = 7,
+    /// No record waits.
+    NoneWaits = 8,
+    /// Two terms taken and both columns empty. No sound state gives it.
+    NoRow = 9,
+    /// Lent state unsound.
+    Unsound = 10,
+    /// Order not 1 to 12, or position not 1 to 2^order - 1.
+    NoTerm = 11,
+}
+
+impl Refusal {
+    /// Every refusal, by its number.
+    pub const ALL: [Refusal; 11] = [
+        Refusal::NoSlot,
+        Refusal::NotPresent,
+        Refusal::AtClosing,
+        Refusal::BadLength,
+        Refusal::Full,
+        Refusal::BadWeight,
+        Refusal::NoneFree,
+        Refusal::NoneWaits,
+        Refusal::NoRow,
+        Refusal::Unsound,
+        Refusal::NoTerm,
+    ];
+
+    /// The number that the call gave.
+    pub fn number(self) -> u32 {
+        self as u32
+    }
+
+    /// The refusal with this number; none for 0 and for numbers that no call gives.
+    pub fn from_number(number: u32) -> Option<Refusal> {
+        Refusal::ALL.into_iter().find(|refusal| refusal.number() == number)
+    }
+}
+
+/// The header's text for the number.
+impl fmt::Display for Refusal {
+    fn fmt(&self, out: &mut fmt::Formatter) -> fmt::Result {
+        out.write_str(match self {
+            Refusal::NoSlot => "no such slot",
+            Refusal::NotPresent => "slot free, or ticket not its present one",
+            Refusal::AtClosing => "channel is closing",
+            Refusal::BadLength => "length out of range",
+            Refusal::Full => "no room for one more record",
+            Refusal::BadWeight => "weight out of range",
+            Refusal::NoneFree => "no slot can be opened",
+            Refusal::NoneWaits => "no record waits",
+            Refusal::NoRow => "no row in the columns of two terms",
+            Refusal::Unsound => "state unsound, or state or answer of wrong length",
+            Refusal::NoTerm => "no such term",
+        })
+    }
+}
+
+impl Error for Refusal {}
