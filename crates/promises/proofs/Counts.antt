@@ -1,20 +1,20 @@
 -- What the moments of calls count is what their answers say: a Next sends one record, of its slot, and starts a visit of it exactly where the mark is 1.
 use Prim.Native.Nat.{ℕ, _+_}
-use mathlib.Core.Path.{_≡_, refl, ap}
+use mathlib.Core.Path.{_≡_, refl, sym, ap}
 use mathlib.Core.Bool.{Bool, true, false, cond}
 use mathlib.Core.List.{List, [], _∷_, _++_}
 use native.Mathlib.Nat.{add-zero, zero-add}
 use native.Mathlib.Omega.{arith}
 use lib.Dec.{eqb}
 use Rattle.rules.specs.State.{State}
-use Rattle.rules.specs.Next.{Sent, Chosen, nextCall}
-use Rattle.rules.specs.Calls.{Call, step}
+use Rattle.rules.specs.Next.{Sent, Chosen}
+use Rattle.rules.specs.Calls.{Call, toNext, step}
 use Rattle.rules.proofs.Facts.{Sound, AllFit}
 use Rattle.rules.proofs.Served.{Served}
 use Rattle.rules.proofs.Kept.{step-kept}
 use Rattle.promises.specs.Moments.{Moment, aTerm, aVisit, aSend, aCall, moved, movedBy, chooseMoments, momentsOf, momentsAlong, sentAt, visitsAt, costAt, momentsTotal}
-use Rattle.promises.specs.Rounds.{ofSent, counted, oneSent, visitsOf, costOf, total}
-use Rattle.promises.proofs.EachCall.{counted-next, counted-other}
+use Rattle.promises.specs.Rounds.{counted, oneSent, visitsOf, costOf, total}
+use Rattle.promises.proofs.EachCall.{counted-given, counted-refused, counted-other}
 use Rattle.promises.proofs.NextMoments.{ScannedBy, first-visit, term-first, ChosenBy, in-visit, by-scan, chosen-by}
 use Rattle.promises.proofs.Made.{chosen-leads, Made, unserved, serving, other, made, moments-lead}
 
@@ -33,7 +33,7 @@ pub record SameCount (f : State → Moment → ℕ) (a : Sent → ℕ) : Type 0 
   pub before : Chosen → ℕ
   pub at-visit : (s : State) (x : Chosen) (i : ℕ) (rest : List ℕ) → s .scan .toVisit ≡ i ∷ rest → x .slot ≡ i → x .started ≡ 1 → f s aVisit ≡ before x
   pub no-visit : (x : Chosen) → x .started ≡ 0 → 0 ≡ before x
-  pub at-send : {s : State} (N : Served s) → before (N .chosen) + f (N .chosen .state) aSend ≡ ofSent a (nextCall s)
+  pub at-send : {s : State} (N : Served s) → before (N .chosen) + f (N .chosen .state) aSend ≡ counted a s toNext
 
 module _ {f : State → Moment → ℕ} {a : Sent → ℕ} (A : SameCount f a) where
   scanned-total : {s : State} {x : Chosen} {ms : List Moment} → ScannedBy x s ms → momentsTotal f s ms ≡ A .before x
@@ -48,13 +48,13 @@ module _ {f : State → Moment → ℕ} {a : Sent → ℕ} (A : SameCount f a) w
 
   pub made-total : {s s′ : State} {c : Call} {ms : List Moment} → Made s c s′ ms → momentsTotal f s ms ≡ counted a s c
   unfolding momentsTotal
-  made-total {s} (unserved q) = rw (counted-next a s, q) refl
+  made-total {s} (unserved q) = sym (counted-refused a s q)
   made-total {s} (serving e N) =
       let choosing = chooseMoments (s .scan .visit) s in
       let there : f (movedBy s choosing) aSend ≡ f (N .chosen .state) aSend = ap (λ (r : State). f r aSend) (chosen-leads e (chosen-by N) .there) in
       let chosen = chosen-total (chosen-by N) in
       let sent = A .at-send N in
-      omega (arith, counted-next a s, total-append f choosing (aSend ∷ []) s)
+      omega (arith, total-append f choosing (aSend ∷ []) s)
   made-total {s} (other {c} n) = let z = A .no-call s c in let y = counted-other a s c n in omega arith
 
   pub calls-total : (cs : List Call) (s : State) → AllFit cs → Sound s → momentsTotal f s (momentsAlong s cs) ≡ total a s cs
@@ -78,7 +78,7 @@ sends-same =
       before = λ x. 0;
       at-visit = λ s x i rest t e o. refl;
       no-visit = λ x o. refl;
-      at-send = λ N. rw (N .answer) refl;
+      at-send = λ {s} N. sym (counted-given oneSent s (N .answer));
     }
 
 pub visits-same : (i : ℕ) → SameCount (visitsAt i) (visitsOf i)
@@ -89,7 +89,7 @@ visits-same i =
       before = λ x. cond (eqb i (x .slot)) (x .started) 0;
       at-visit = λ s x j rest t e o. rw (t, e, o) refl;
       no-visit = λ x o. rw o (none-counted (eqb i (x .slot)));
-      at-send = λ N. rw (N .answer) (add-zero _);
+      at-send = λ {s} N. rw (counted-given (visitsOf i) s (N .answer)) (add-zero _);
     }
   where
     none-counted : (b : Bool) → _≡_ {A = ℕ} 0 (cond b 0 0)
@@ -104,5 +104,5 @@ costs-same i =
       before = λ x. 0;
       at-visit = λ s x j rest t e o. refl;
       no-visit = λ x o. refl;
-      at-send = λ N. rw (N .answer, N .choice .visit, N .still) (zero-add _);
+      at-send = λ {s} N. rw (counted-given (costOf i) s (N .answer), N .choice .visit, N .still) (zero-add _);
     }

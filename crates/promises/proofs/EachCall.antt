@@ -6,15 +6,16 @@ use mathlib.Core.Bool.{true, false, true≢false, false≢true}
 use native.Mathlib.Omega.{arith}
 use Rattle.lists.specs.Slots.{occurs}
 use Rattle.lists.proofs.SlotsLaws.{if-eq}
+use Rattle.answers.specs.Answer.{noneWaits, refused, given}
 use Rattle.rules.specs.State.{State, fresh, at}
-use Rattle.rules.specs.Reply.{after}
+use Rattle.rules.specs.Reply.{Done, after}
 use Rattle.rules.specs.Next.{Sent, nextCall}
 use Rattle.rules.specs.Calls.{openCall, putCall, closeCall, startCall, Call, toOpen, toPut, toClose, toNext, toStart, toAsk, step}
 use Rattle.rules.proofs.Facts.{Sound}
 use Rattle.rules.proofs.Cases.{by-answer}
 use Rattle.rules.proofs.Frames.{OpenLeaves, open-leaves, PutLeaves, put-leaves, CloseLeaves, close-leaves, ask-leaves}
 use Rattle.promises.specs.Moments.{isNext}
-use Rattle.promises.specs.Rounds.{Waiting, ofSent, counted}
+use Rattle.promises.specs.Rounds.{Waiting, counted}
 use Rattle.promises.proofs.Waiting.{waits-row}
 
 -- ---- Next
@@ -31,8 +32,11 @@ pub step-next : (s : State) → step s toNext ≡ after s (nextCall s)
 unfolding step
 step-next s = refl
 
-pub counted-next : (f : Sent → ℕ) (s : State) → counted f s toNext ≡ ofSent f (nextCall s)
-counted-next f s = refl
+pub counted-given : (f : Sent → ℕ) (s : State) {d : Done Sent} → nextCall s ≡ given d → counted f s toNext ≡ f (d .fields)
+counted-given f s e = rw e refl
+
+pub counted-refused : (f : Sent → ℕ) (s : State) → nextCall s ≡ refused noneWaits → counted f s toNext ≡ 0
+counted-refused f s e = rw e refl
 
 -- ---- any other call
 
