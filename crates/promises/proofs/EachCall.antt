@@ -1,0 +1,108 @@
+-- What a call is to a round: Next, or a call that sends nothing and leaves the scan point, and the weight and deficit of each slot that waits, alone, or
+-- Start. Of the files on rounds this is the one that goes by which call it is.
+use Prim.Native.Nat.{ℕ}
+use mathlib.Core.Path.{_≡_, refl, sym}
+use mathlib.Core.Bool.{true, false, true≢false, false≢true}
+use native.Mathlib.Omega.{arith}
+use Rattle.lists.specs.Slots.{occurs}
+use Rattle.lists.proofs.SlotsLaws.{if-eq}
+use Rattle.answers.specs.Answer.{noneWaits, refused, given}
+use Rattle.rules.specs.State.{State, fresh, at}
+use Rattle.rules.specs.Reply.{Done, after}
+use Rattle.rules.specs.Next.{Sent, nextCall}
+use Rattle.rules.specs.Calls.{openCall, putCall, closeCall, startCall, Call, toOpen, toPut, toClose, toNext, toStart, toAsk, step}
+use Rattle.rules.proofs.Facts.{Sound}
+use Rattle.rules.proofs.Cases.{by-answer}
+use Rattle.rules.proofs.Frames.{OpenLeaves, open-leaves, PutLeaves, put-leaves, CloseLeaves, close-leaves, ask-leaves}
+use Rattle.promises.specs.Moments.{isNext}
+use Rattle.promises.specs.Rounds.{Waiting, counted}
+use Rattle.promises.proofs.Waiting.{waits-row}
+
+-- ---- Next
+
+pub is-next : (c : Call) → isNext c ≡ true → c ≡ toNext
+is-next (toOpen w) e = absurd (false≢true e)
+is-next (toPut i t n r) e = absurd (false≢true e)
+is-next (toClose i t) e = absurd (false≢true e)
+is-next toNext e = refl
+is-next toStart e = absurd (false≢true e)
+is-next (toAsk i t) e = absurd (false≢true e)
+
+pub step-next : (s : State) → step s toNext ≡ after s (nextCall s)
+unfolding step
+step-next s = refl
+
+pub counted-given : (f : Sent → ℕ) (s : State) {d : Done Sent} → nextCall s ≡ given d → counted f s toNext ≡ f (d .fields)
+counted-given f s e = rw e refl
+
+pub counted-refused : (f : Sent → ℕ) (s : State) → nextCall s ≡ refused noneWaits → counted f s toNext ≡ 0
+counted-refused f s e = rw e refl
+
+-- ---- any other call
+
+pub counted-other : (f : Sent → ℕ) (s : State) (c : Call) → isNext c ≡ false → counted f s c ≡ 0
+counted-other f s (toOpen w) e = refl
+counted-other f s (toPut i t n r) e = refl
+counted-other f s (toClose i t) e = refl
+counted-other f s toNext e = absurd (true≢false e)
+counted-other f s toStart e = refl
+counted-other f s (toAsk i t) e = refl
+
+-- what a round looks at of slot i is the same
+pub record Alone (i : ℕ) (s s′ : State) : Type 0 where
+  pub weight : at (s′ .channels) i .weight ≡ at (s .channels) i .weight
+  pub deficit : at (s′ .channels) i .deficit ≡ at (s .channels) i .deficit
+
+pub data OtherCall (s s′ : State) : Type 0 where
+  quiet : s′ .scan ≡ s .scan → ((i : ℕ) → Waiting i s → Alone i s s′) → OtherCall s s′
+  afresh : s′ ≡ fresh → OtherCall s s′
+
+alone-refl : (i : ℕ) (s : State) → Alone i s s
+alone-refl i s = record { weight = refl; deficit = refl }
+
+alone-same : {i : ℕ} {s s′ : State} → at (s′ .channels) i ≡ at (s .channels) i → Alone i s s′
+alone-same e = record { weight = rw e refl; deficit = rw e refl }
+
+still : {s s′ : State} → s′ ≡ s → OtherCall s s′
+still {s} e = rw e (quiet refl (λ i h. alone-refl i s))
+
+module _ {s : State} (S : Sound s) where
+  -- Open takes a slot that is no row
+  open-other : (w : ℕ) → OtherCall s (after s (openCall w s))
+  open-other w =
+      by-answer (OtherCall s) s (openCall w s) (still refl)
+      (λ d e.
+      let L : OpenLeaves w s d = open-leaves S e in
+      quiet (L .around .scan)
+      (λ i h.
+      let m : occurs i (s .rows) ≡ 1 = waits-row S i h in
+      alone-same (L .others i (λ q. let z : occurs i (s .rows) ≡ 0 = rw q (L .no-row) in omega arith))))
+
+  -- Put and Close leave the weight and the deficit of a slot that waits
+  put-other : (j t n r : ℕ) → OtherCall s (after s (putCall j t n r s))
+  put-other j t n r =
+      by-answer (OtherCall s) s (putCall j t n r s) (still refl)
+      (λ d e.
+      let L : PutLeaves j t n r s d = put-leaves S e in
+      quiet (L .scan)
+      (λ i h. if-eq i j (λ q. rw q (record { weight = rw (L .own) refl; deficit = rw (L .own) refl })) (λ m. alone-same (L .others i m))))
+
+  close-other : (j t : ℕ) → OtherCall s (after s (closeCall j t s))
+  close-other j t =
+      by-answer (OtherCall s) s (closeCall j t s) (still refl)
+      (λ d e.
+      let L : CloseLeaves j t s d = close-leaves S e in
+      quiet (L .around .scan)
+      (λ i h.
+      if-eq i j
+      (λ q. let g = L .drains (rw (sym q) h) .1 in rw q (record { weight = rw g refl; deficit = rw g refl }))
+      (λ m. alone-same (L .others i m))))
+
+  pub other-call : (c : Call) → isNext c ≡ false → OtherCall s (step s c)
+  unfolding step startCall
+  other-call (toOpen w) n = open-other w
+  other-call (toPut j t k r) n = put-other j t k r
+  other-call (toClose j t) n = close-other j t
+  other-call toNext n = absurd (true≢false n)
+  other-call toStart n = afresh refl
+  other-call (toAsk j t) n = still (ask-leaves j t s)

@@ -1,0 +1,93 @@
+-- What calls are made of: their moments are lawful and lead to what the calls leave. A Next chooses and sends; any other call is one moment.
+use mathlib.Core.Path.{_≡_, refl, sym, ap, _∙_, subst}
+use mathlib.Core.Bool.{Bool, true, false, cond}
+use mathlib.Core.List.{List, [], _∷_, _++_}
+use mathlib.Core.Option.{none}
+use Rattle.lists.specs.Tests.{isEmpty}
+use Rattle.answers.specs.Answer.{noneWaits, refused}
+use Rattle.rules.specs.State.{State, at}
+use Rattle.rules.specs.Reply.{after}
+use Rattle.rules.specs.Next.{paying, settled, Chosen, nextCall}
+use Rattle.rules.specs.Calls.{Call, toNext, step, run}
+use Rattle.rules.proofs.Facts.{Sound, Fits, AllFit}
+use Rattle.rules.proofs.Served.{Served, served, eight}
+use Rattle.rules.proofs.Kept.{step-kept}
+use Rattle.promises.specs.Moments.{Moment, aTerm, aVisit, aSend, aCall, moved, movedBy, chooseMoments, nextMoments, isNext, momentsOf, momentsAlong}
+use Rattle.promises.proofs.EachCall.{is-next, step-next}
+use Rattle.promises.proofs.Lawful.{Can, Lawful, moved-visit, moved-send, moved-append, lawful-append}
+use Rattle.promises.proofs.NextMoments.{ScannedBy, first-visit, term-first, ChosenBy, in-visit, by-scan, chosen-by}
+
+-- ---- these moments are lawful and lead there
+
+pub record Leads (s : State) (ms : List Moment) (s′ : State) : Type 0 where
+  pub lawful : Lawful s ms
+  pub there : movedBy s ms ≡ s′
+
+leads-append : {s s′ s″ : State} (xs ys : List Moment) → Leads s xs s′ → Leads s′ ys s″ → Leads s (xs ++ ys) s″
+leads-append {s} {s′} {s″} xs ys a b =
+    record {
+      lawful = lawful-append xs ys s (a .lawful) (subst (λ (r : State). Lawful r ys) (sym (a .there)) (b .lawful));
+      there = moved-append xs ys s ∙ ap (λ (r : State). movedBy r ys) (a .there) ∙ b .there;
+    }
+
+leads-none : (s : State) → Leads s [] s
+unfolding movedBy
+leads-none s = record { lawful = tt; there = refl }
+
+leads-one : {s s′ : State} (m : Moment) → Can s m → moved s m ≡ s′ → Leads s (m ∷ []) s′
+unfolding movedBy
+leads-one m c e = record { lawful = (c, tt); there = e }
+
+scanned-leads : {s : State} {x : Chosen} {ms : List Moment} → s .scan .visit ≡ none → isEmpty (s .rows) ≡ false → ScannedBy x s ms → Leads s ms (x .state)
+unfolding moved
+scanned-leads {s} v e (first-visit i rest t a b c) = leads-one aVisit (i, rest, v, t) (moved-visit s i rest t ∙ sym c)
+scanned-leads {s} v e (term-first {ms = ms} t later) = leads-append (aTerm ∷ []) ms (leads-one aTerm (v, t, e) refl) (scanned-leads v e later)
+
+pub chosen-leads : {s : State} {x : Chosen} {ms : List Moment} → isEmpty (s .rows) ≡ false → ChosenBy x s ms → Leads s ms (x .state)
+chosen-leads {s} e (in-visit z same) = subst (Leads s []) (sym same) (leads-none s)
+chosen-leads e (by-scan v way) = scanned-leads v e way
+
+pub next-leads : {s : State} → isEmpty (s .rows) ≡ false → Served s → Leads s (nextMoments s) (after s (nextCall s))
+next-leads {s} e N =
+    let x = N .chosen in
+    let m : moved (x .state) aSend ≡ settled (N .rest) (x .state) (x .slot) (paying (N .head) (N .rest) (at (x .state .channels) (x .slot))) =
+    moved-send (x .state) (x .slot) (N .head) (N .rest) (N .choice .visit) (N .still)
+    in
+    leads-append (chooseMoments (s .scan .visit) s) (aSend ∷ []) (chosen-leads e (chosen-by N))
+    (leads-one aSend (x .slot, N .head, N .rest, N .choice .visit, N .still) (rw (m, N .answer) refl))
+
+-- ---- any call, and any list of calls
+
+-- what a call leaves, and its moments: none of a Next without rows, those of a Next that sends, one of any other call
+pub data Made (s : State) : Call → State → List Moment → Type 0 where
+  unserved : nextCall s ≡ refused noneWaits → Made s toNext s []
+  serving : isEmpty (s .rows) ≡ false → (N : Served s) → Made s toNext (after s (nextCall s)) (nextMoments s)
+  other : {c : Call} → isNext c ≡ false → Made s c (step s c) (aCall c ∷ [])
+
+pub made : {s : State} → Sound s → (c : Call) → Made s c (step s c) (momentsOf s c)
+unfolding momentsOf
+made {s} S c = go (isNext c) refl
+  where
+    next : (b : Bool) → isEmpty (s .rows) ≡ b → Made s toNext (after s (nextCall s)) (cond b [] (nextMoments s))
+    next true e = let q = eight s e in subst (λ (r : State). Made s toNext r []) (sym (ap (after s) q)) (unserved q)
+    next false e = serving e (served S e)
+
+    go : (b : Bool) → isNext c ≡ b → Made s c (step s c) (cond b (cond (isEmpty (s .rows)) [] (nextMoments s)) (aCall c ∷ []))
+    go true e = rw (is-next c e, step-next s) (next (isEmpty (s .rows)) refl)
+    go false e = other e
+
+made-leads : {s s′ : State} {c : Call} {ms : List Moment} → Fits c → Sound s → Made s c s′ ms → Leads s ms s′
+unfolding moved
+made-leads {s} f S (unserved q) = leads-none s
+made-leads f S (serving e N) = next-leads e N
+made-leads f S (other {c} n) = leads-one (aCall c) (n, f, S) refl
+
+pub moments-lead : (c : Call) {s : State} → Fits c → Sound s → Leads s (momentsOf s c) (step s c)
+moments-lead c f S = made-leads f S (made S c)
+
+-- the moments of a list of calls are lawful and lead to what the calls leave
+pub moments-along : (cs : List Call) {s : State} → AllFit cs → Sound s → Leads s (momentsAlong s cs) (run s cs)
+unfolding momentsAlong run
+moments-along [] {s} f S = leads-none s
+moments-along (c ∷ cs) {s} f S =
+    leads-append (momentsOf s c) (momentsAlong (step s c) cs) (moments-lead c (f .0) S) (moments-along cs (f .1) (step-kept c (f .0) S))
