@@ -12,8 +12,8 @@ use Rattle.lists.specs.Tests.{isEmpty}
 use Rattle.rules.specs.State.{State, at}
 use Rattle.rules.specs.Reply.{after}
 use Rattle.rules.specs.Next.{termTaken, granting, visitStarted, Chosen, nextCall}
-use Rattle.rules.specs.Calls.{Call, step}
-use Rattle.rules.proofs.Facts.{Sound, AllFit}
+use Rattle.rules.specs.Calls.{Call, step, AllInRange}
+use Rattle.rules.proofs.Facts.{Sound}
 use Rattle.rules.proofs.Cases.{none-some}
 use Rattle.rules.proofs.Channels.{at-same, at-other}
 use Rattle.rules.proofs.Rows.{visit-lt}
@@ -72,7 +72,7 @@ module _ {P : State → Type 0} (K : Stable P) where
       throughout-append P choosing (aSend ∷ []) s before (at-last P s choosing before, subst P (sym there) p′)
   made-throughout S (other n) p p′ = (p, p′)
 
-  pub calls-throughout : (cs : List Call) {s : State} → AllFit cs → Sound s → Throughout P s cs → MomentsThroughout P s (momentsAlong s cs)
+  pub calls-throughout : (cs : List Call) {s : State} → AllInRange cs → Sound s → Throughout P s cs → MomentsThroughout P s (momentsAlong s cs)
   unfolding Throughout momentsAlong MomentsThroughout
   calls-throughout [] f S p = p
   calls-throughout (c ∷ cs) {s} f S p =
@@ -130,7 +130,7 @@ made-within {s} n S inside (serving e N) =
     within-append n choosing (aSend ∷ []) s (chosen-within n S e inside (chosen-by N)) (λ l B. none-some (sym (B .no-visit) ∙ v), tt)
 made-within n S inside (other x) = (inside, tt)
 
-pub calls-within : (n : ℕ) (cs : List Call) (s : State) → AllFit cs → Sound s → WithinRound n s cs → MomentsWithin n s (momentsAlong s cs)
+pub calls-within : (n : ℕ) (cs : List Call) (s : State) → AllInRange cs → Sound s → WithinRound n s cs → MomentsWithin n s (momentsAlong s cs)
 unfolding WithinRound momentsAlong MomentsWithin
 calls-within n [] s f S inside = tt
 calls-within n (c ∷ cs) s f S inside =
@@ -138,7 +138,7 @@ calls-within n (c ∷ cs) s f S inside =
     (rw (moments-lead c (f .0) S .there, made-total sends-same (made S c))
     (calls-within (n + counted oneSent s c) cs (step s c) (f .1) (step-kept c (f .0) S) (inside .1)))
 
-pub calls-round : {s : State} {cs : List Call} → AllFit cs → Sound s → Round s cs → MomentsRound s (momentsAlong s cs)
+pub calls-round : {s : State} {cs : List Call} → AllInRange cs → Sound s → Round s cs → MomentsRound s (momentsAlong s cs)
 calls-round {s} {cs} f S R =
     record {
       starts = R .starts;

@@ -8,8 +8,8 @@ use native.Mathlib.Omega.{arith}
 use lib.Dec.{eqb}
 use Rattle.rules.specs.State.{State}
 use Rattle.rules.specs.Next.{Sent, Chosen}
-use Rattle.rules.specs.Calls.{Call, toNext, step}
-use Rattle.rules.proofs.Facts.{Sound, AllFit}
+use Rattle.rules.specs.Calls.{Call, toNext, step, AllInRange}
+use Rattle.rules.proofs.Facts.{Sound}
 use Rattle.rules.proofs.Served.{Served}
 use Rattle.rules.proofs.Kept.{step-kept}
 use Rattle.promises.specs.Moments.{Moment, aTerm, aVisit, aSend, aCall, moved, movedBy, chooseMoments, momentsOf, momentsAlong, sentAt, visitsAt, costAt, momentsTotal}
@@ -57,7 +57,7 @@ module _ {f : State → Moment → ℕ} {a : Sent → ℕ} (A : SameCount f a) w
       omega (arith, total-append f choosing (aSend ∷ []) s)
   made-total {s} (other {c} n) = let z = A .no-call s c in let y = counted-other a s c n in omega arith
 
-  pub calls-total : (cs : List Call) (s : State) → AllFit cs → Sound s → momentsTotal f s (momentsAlong s cs) ≡ total a s cs
+  pub calls-total : (cs : List Call) (s : State) → AllInRange cs → Sound s → momentsTotal f s (momentsAlong s cs) ≡ total a s cs
   unfolding momentsAlong momentsTotal total
   calls-total [] s fit S = refl
   calls-total (c ∷ cs) s fit S =

@@ -1,7 +1,7 @@
 -- What a call is to a round: Next, or a call that sends nothing and leaves the scan point, and the weight and deficit of each slot that waits, alone, or
 -- Start. Of the files on rounds this is the one that goes by which call it is.
 use Prim.Native.Nat.{ℕ}
-use mathlib.Core.Path.{_≡_, refl, sym}
+use mathlib.Core.Path.{_≡_, refl, sym, _∙_}
 use mathlib.Core.Bool.{true, false, true≢false, false≢true}
 use native.Mathlib.Omega.{arith}
 use Rattle.lists.specs.Slots.{occurs}
@@ -10,9 +10,9 @@ use Rattle.answers.specs.Answer.{noneWaits, refused, given}
 use Rattle.rules.specs.State.{State, fresh, at}
 use Rattle.rules.specs.Reply.{Done, after}
 use Rattle.rules.specs.Next.{Sent, nextCall}
-use Rattle.rules.specs.Calls.{openCall, putCall, closeCall, startCall, Call, toOpen, toPut, toClose, toNext, toStart, toAsk, step}
+use Rattle.rules.specs.Calls.{openCall, putCall, closeCall, askCall, startCall, Call, toOpen, toPut, toClose, toNext, toStart, toAsk, openFields, putFields, closeFields, nextFields, askFields, reply, ofNext, step}
 use Rattle.rules.proofs.Facts.{Sound}
-use Rattle.rules.proofs.Cases.{by-answer}
+use Rattle.rules.proofs.Cases.{by-answer, after-under, only-next}
 use Rattle.rules.proofs.Frames.{OpenLeaves, open-leaves, PutLeaves, put-leaves, CloseLeaves, close-leaves, ask-leaves}
 use Rattle.promises.specs.Moments.{isNext}
 use Rattle.promises.specs.Rounds.{Waiting, counted}
@@ -29,24 +29,29 @@ is-next toStart e = absurd (false≢true e)
 is-next (toAsk i t) e = absurd (false≢true e)
 
 pub step-next : (s : State) → step s toNext ≡ after s (nextCall s)
-unfolding step
-step-next s = refl
+unfolding step reply
+step-next s = after-under nextFields s (nextCall s)
 
 pub counted-given : (f : Sent → ℕ) (s : State) {d : Done Sent} → nextCall s ≡ given d → counted f s toNext ≡ f (d .fields)
+unfolding reply
 counted-given f s e = rw e refl
 
 pub counted-refused : (f : Sent → ℕ) (s : State) → nextCall s ≡ refused noneWaits → counted f s toNext ≡ 0
+unfolding reply
 counted-refused f s e = rw e refl
 
 -- ---- any other call
 
 pub counted-other : (f : Sent → ℕ) (s : State) (c : Call) → isNext c ≡ false → counted f s c ≡ 0
-counted-other f s (toOpen w) e = refl
-counted-other f s (toPut i t n r) e = refl
-counted-other f s (toClose i t) e = refl
-counted-other f s toNext e = absurd (true≢false e)
-counted-other f s toStart e = refl
-counted-other f s (toAsk i t) e = refl
+counted-other f s c e = only-next 0 f c s ∙ go c e
+  where
+    go : (c : Call) → isNext c ≡ false → ofNext 0 (counted f s toNext) c ≡ 0
+    go (toOpen w) e = refl
+    go (toPut i t n r) e = refl
+    go (toClose i t) e = refl
+    go toNext e = absurd (true≢false e)
+    go toStart e = refl
+    go (toAsk i t) e = refl
 
 -- what a round looks at of slot i is the same
 pub record Alone (i : ℕ) (s s′ : State) : Type 0 where
@@ -99,10 +104,10 @@ module _ {s : State} (S : Sound s) where
       (λ m. alone-same (L .others i m))))
 
   pub other-call : (c : Call) → isNext c ≡ false → OtherCall s (step s c)
-  unfolding step startCall
-  other-call (toOpen w) n = open-other w
-  other-call (toPut j t k r) n = put-other j t k r
-  other-call (toClose j t) n = close-other j t
+  unfolding step reply startCall
+  other-call (toOpen w) n = rw (after-under openFields s (openCall w s)) (open-other w)
+  other-call (toPut j t k r) n = rw (after-under putFields s (putCall j t k r s)) (put-other j t k r)
+  other-call (toClose j t) n = rw (after-under closeFields s (closeCall j t s)) (close-other j t)
   other-call toNext n = absurd (true≢false n)
   other-call toStart n = afresh refl
-  other-call (toAsk j t) n = still (ask-leaves j t s)
+  other-call (toAsk j t) n = still (after-under askFields s (askCall j t s) ∙ ask-leaves j t s)

@@ -9,7 +9,8 @@ use native.Mathlib.Nat.{le-refl}
 use Rattle.lists.specs.Tests.{isEmpty}
 use Rattle.rules.specs.State.{Record, State, at}
 use Rattle.rules.specs.Next.{visitStarted, paying, settled}
-use Rattle.rules.proofs.Facts.{SoundTo, Sound, grantLimit, Fits}
+use Rattle.rules.specs.Calls.{InRange}
+use Rattle.rules.proofs.Facts.{SoundTo, Sound, grantLimit}
 use Rattle.rules.proofs.Changes.{slot-moved}
 use Rattle.rules.proofs.Steps.{term-kept, start-kept, settle-kept}
 use Rattle.rules.proofs.Choosing.{sound-wider}
@@ -20,7 +21,7 @@ abbrev pub Can : State → Moment → Type 0
 Can s aTerm = (s .scan .visit ≡ none) × (s .scan .toVisit ≡ []) × (isEmpty (s .rows) ≡ false)
 Can s aVisit = (j : ℕ) × (rest : List ℕ) × (s .scan .visit ≡ none) × (s .scan .toVisit ≡ j ∷ rest)
 Can s aSend = (j : ℕ) × (h : Record) × (rest : List Record) × (s .scan .visit ≡ some j) × (at (s .channels) j .waiting ≡ h ∷ rest)
-Can s (aCall c) = (isNext c ≡ false) × Fits c × Sound s
+Can s (aCall c) = (isNext c ≡ false) × InRange c × Sound s
 
 abbrev pub Lawful : State → List Moment → Type 0
 Lawful s [] = Unit {0}

@@ -8,8 +8,8 @@ use Rattle.answers.specs.Answer.{noneWaits, refused}
 use Rattle.rules.specs.State.{State, at}
 use Rattle.rules.specs.Reply.{after}
 use Rattle.rules.specs.Next.{paying, settled, Chosen, nextCall}
-use Rattle.rules.specs.Calls.{Call, toNext, step, run}
-use Rattle.rules.proofs.Facts.{Sound, Fits, AllFit}
+use Rattle.rules.specs.Calls.{Call, toNext, step, run, InRange, AllInRange}
+use Rattle.rules.proofs.Facts.{Sound}
 use Rattle.rules.proofs.Served.{Served, served, eight}
 use Rattle.rules.proofs.Kept.{step-kept}
 use Rattle.promises.specs.Moments.{Moment, aTerm, aVisit, aSend, aCall, moved, movedBy, chooseMoments, nextMoments, isNext, momentsOf, momentsAlong}
@@ -76,17 +76,17 @@ made {s} S c = go (isNext c) refl
     go true e = rw (is-next c e, step-next s) (next (isEmpty (s .rows)) refl)
     go false e = other e
 
-made-leads : {s s′ : State} {c : Call} {ms : List Moment} → Fits c → Sound s → Made s c s′ ms → Leads s ms s′
+made-leads : {s s′ : State} {c : Call} {ms : List Moment} → InRange c → Sound s → Made s c s′ ms → Leads s ms s′
 unfolding moved
 made-leads {s} f S (unserved q) = leads-none s
 made-leads f S (serving e N) = next-leads e N
 made-leads f S (other {c} n) = leads-one (aCall c) (n, f, S) refl
 
-pub moments-lead : (c : Call) {s : State} → Fits c → Sound s → Leads s (momentsOf s c) (step s c)
+pub moments-lead : (c : Call) {s : State} → InRange c → Sound s → Leads s (momentsOf s c) (step s c)
 moments-lead c f S = made-leads f S (made S c)
 
 -- the moments of a list of calls are lawful and lead to what the calls leave
-pub moments-along : (cs : List Call) {s : State} → AllFit cs → Sound s → Leads s (momentsAlong s cs) (run s cs)
+pub moments-along : (cs : List Call) {s : State} → AllInRange cs → Sound s → Leads s (momentsAlong s cs) (run s cs)
 unfolding momentsAlong run
 moments-along [] {s} f S = leads-none s
 moments-along (c ∷ cs) {s} f S =

@@ -6,8 +6,8 @@ use mathlib.Core.List.{List, _++_}
 use Rattle.spread.specs.Distance.{Near}
 use Rattle.rules.specs.Numbers.{granted, restLimit}
 use Rattle.rules.specs.State.{State, at}
-use Rattle.rules.specs.Calls.{Call}
-use Rattle.rules.proofs.Facts.{SoundTo, Sound, grantLimit, AllFit}
+use Rattle.rules.specs.Calls.{Call, AllInRange}
+use Rattle.rules.proofs.Facts.{SoundTo, Sound, grantLimit}
 use Rattle.rules.proofs.Choosing.{sound-wider}
 use Rattle.promises.specs.Moments.{Moment, movedBy, momentsAlong, sentAt, visitsAt, costAt, momentsTotal}
 use Rattle.promises.specs.Rounds.{Starts, Waits, MomentsThroughout, Steady, MomentsWithin, MomentsRound, perPosition, oneSent, visitsOf, costOf, total, Throughout, WithinRound, Round}
@@ -21,7 +21,7 @@ use Rattle.promises.proofs.BetweenCalls.{calls-throughout, order-stable
 -- ---- over calls
 
 -- "That channel is visited exactly as often as its weight w"
-pub visited-by-weight : (i : ℕ) (s : State) (cs : List Call) → Sound s → AllFit cs → Round s cs → Throughout (Waits (s .order) i) s cs
+pub visited-by-weight : (i : ℕ) (s : State) (cs : List Call) → Sound s → AllInRange cs → Round s cs → Throughout (Waits (s .order) i) s cs
     → total (visitsOf i) s cs ≡ at (s .channels) i .weight
 visited-by-weight i s cs S f R waits =
     rw (← calls-total (visits-same i) cs s f S)
@@ -29,7 +29,7 @@ visited-by-weight i s cs S f R waits =
     (calls-throughout (waits-stable (s .order) i) cs f S waits))
 
 -- "and sends at least 1,024w - 1,023 and at most 1,024w + 1,023 bytes"
-pub bytes-by-weight : (i : ℕ) (s : State) (cs : List Call) → Sound s → AllFit cs → Round s cs → Throughout (Waits (s .order) i) s cs
+pub bytes-by-weight : (i : ℕ) (s : State) (cs : List Call) → Sound s → AllInRange cs → Round s cs → Throughout (Waits (s .order) i) s cs
     → (granted * at (s .channels) i .weight ≤ total (costOf i) s cs + restLimit) × (total (costOf i) s cs ≤ granted * at (s .channels) i .weight + restLimit)
 bytes-by-weight i s cs S f R waits =
     rw (← calls-total (costs-same i) cs s f S)
@@ -38,7 +38,7 @@ bytes-by-weight i s cs S f R waits =
 
 -- "twice the distance between w1 times the second's visits and w2 times the first's is at most the larger weight times the larger of 2 and the order":
 -- for every list of calls within the round, so after every call, ended or under way
-pub two-channels-near : (i j : ℕ) (s : State) (cs : List Call) → Sound s → AllFit cs → Starts s → WithinRound 0 s cs
+pub two-channels-near : (i j : ℕ) (s : State) (cs : List Call) → Sound s → AllInRange cs → Starts s → WithinRound 0 s cs
     → Throughout (Waits (s .order) i) s cs → Throughout (Waits (s .order) j) s cs
     → Near (s .order) (at (s .channels) i .weight) (total (visitsOf i) s cs) (at (s .channels) j .weight) (total (visitsOf j) s cs)
 two-channels-near i j s cs S f B inside waits-i waits-j =
@@ -47,7 +47,7 @@ two-channels-near i j s cs S f B inside waits-i waits-j =
     (calls-throughout (waits-stable (s .order) i) cs f S waits-i) (calls-throughout (waits-stable (s .order) j) cs f S waits-j))
 
 -- as long as no start is reached after a send, at most 64 times 2,047 records for each of 2^k positions are sent: so a round ends
-pub round-ends : (k : ℕ) (s : State) (cs : List Call) → Sound s → AllFit cs → Throughout (λ s. s .order ≡ k) s cs → WithinRound 0 s cs
+pub round-ends : (k : ℕ) (s : State) (cs : List Call) → Sound s → AllInRange cs → Throughout (λ s. s .order ≡ k) s cs → WithinRound 0 s cs
     → total oneSent s cs ≤ perPosition * 2 ^ k
 round-ends k s cs S f o inside =
     rw (← calls-total sends-same cs s f S)
@@ -57,7 +57,7 @@ round-ends k s cs S f o inside =
 -- ---- over a part of the moments of calls
 
 -- the calls cs, made on a sound state s, have the moments xs, then ms, then ys; ms begins at the state `from`
-module _ (s : State) (cs : List Call) (S : Sound s) (f : AllFit cs) (xs ms ys : List Moment) (split : momentsAlong s cs ≡ xs ++ (ms ++ ys)) where
+module _ (s : State) (cs : List Call) (S : Sound s) (f : AllInRange cs) (xs ms ys : List Moment) (split : momentsAlong s cs ≡ xs ++ (ms ++ ys)) where
   abbrev pub from : State
   from = movedBy s xs
 

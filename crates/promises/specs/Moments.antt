@@ -8,7 +8,7 @@ use Rattle.lists.specs.Tests.{isEmpty}
 use Rattle.rules.specs.Numbers.{mostTerms}
 use Rattle.rules.specs.State.{Record, cost, State, at}
 use Rattle.rules.specs.Next.{termTaken, visitStarted, paying, settled}
-use Rattle.rules.specs.Calls.{Call, byCall, step}
+use Rattle.rules.specs.Calls.{Call, ofNext, step}
 
 -- a term taken, a visit started, a record sent and its visit settled; and, as one moment, any call but Next
 pub data Moment : Type 0 where
@@ -57,7 +57,7 @@ abbrev pub nextMoments : State → List Moment
 nextMoments s = chooseMoments (s .scan .visit) s ++ aSend ∷ []
 
 abbrev pub isNext : Call → Bool
-isNext = byCall (λ w. false) (λ i t n r. false) (λ i t. false) true false (λ i t. false)
+isNext = ofNext false true
 
 -- (a Next without rows is refused and has none)
 unfoldable pub momentsOf : State → Call → List Moment
