@@ -10,11 +10,11 @@ use lib.ListN.{length, set}
 use borrow.Author.Tests.{eq-eqb, ne-eqb}
 use Rattle.lists.proofs.SlotsLaws.{if-eq}
 use Rattle.lists.specs.Tests.{isEmpty}
-use Rattle.rules.specs.Numbers.{granted}
+use Rattle.rules.specs.Numbers.{granted, grantLimit}
 use Rattle.rules.specs.State.{Record, cost, State, at}
 use Rattle.rules.specs.Next.{granting, visitStarted, paying, settled}
 use Rattle.rules.specs.Calls.{Call, step}
-use Rattle.rules.proofs.Facts.{SoundTo, grantLimit}
+use Rattle.rules.specs.Facts.{SoundTo}
 use Rattle.rules.proofs.Channels.{at-same, at-other}
 use Rattle.rules.proofs.Rows.{visit-lt}
 use Rattle.rules.proofs.Steps.{start-kept}

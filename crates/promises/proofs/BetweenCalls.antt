@@ -13,7 +13,7 @@ use Rattle.rules.specs.State.{State, at}
 use Rattle.rules.specs.Reply.{after}
 use Rattle.rules.specs.Next.{termTaken, granting, visitStarted, Chosen, nextCall}
 use Rattle.rules.specs.Calls.{Call, step, AllInRange}
-use Rattle.rules.proofs.Facts.{Sound}
+use Rattle.rules.specs.Facts.{Sound}
 use Rattle.rules.proofs.Cases.{none-some}
 use Rattle.rules.proofs.Channels.{at-same, at-other}
 use Rattle.rules.proofs.Rows.{visit-lt}

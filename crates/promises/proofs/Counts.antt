@@ -9,7 +9,7 @@ use lib.Dec.{eqb}
 use Rattle.rules.specs.State.{State}
 use Rattle.rules.specs.Next.{Sent, Chosen}
 use Rattle.rules.specs.Calls.{Call, toNext, step, AllInRange}
-use Rattle.rules.proofs.Facts.{Sound}
+use Rattle.rules.specs.Facts.{Sound}
 use Rattle.rules.proofs.Served.{Served}
 use Rattle.rules.proofs.Kept.{step-kept}
 use Rattle.promises.specs.Moments.{Moment, aTerm, aVisit, aSend, aCall, moved, movedBy, chooseMoments, momentsOf, momentsAlong, sentAt, visitsAt, costAt, momentsTotal}

@@ -11,7 +11,7 @@ use Rattle.rules.specs.State.{State, fresh, at}
 use Rattle.rules.specs.Reply.{Done, after}
 use Rattle.rules.specs.Next.{Sent, nextCall}
 use Rattle.rules.specs.Calls.{openCall, putCall, closeCall, askCall, startCall, Call, toOpen, toPut, toClose, toNext, toStart, toAsk, openFields, putFields, closeFields, nextFields, askFields, reply, ofNext, step}
-use Rattle.rules.proofs.Facts.{Sound}
+use Rattle.rules.specs.Facts.{Sound}
 use Rattle.rules.proofs.Cases.{by-answer, after-under, only-next}
 use Rattle.rules.proofs.Frames.{OpenLeaves, open-leaves, PutLeaves, put-leaves, CloseLeaves, close-leaves, ask-leaves}
 use Rattle.promises.specs.Moments.{isNext}

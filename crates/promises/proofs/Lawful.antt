@@ -10,7 +10,8 @@ use Rattle.lists.specs.Tests.{isEmpty}
 use Rattle.rules.specs.State.{Record, State, at}
 use Rattle.rules.specs.Next.{visitStarted, paying, settled}
 use Rattle.rules.specs.Calls.{InRange}
-use Rattle.rules.proofs.Facts.{SoundTo, Sound, grantLimit}
+use Rattle.rules.specs.Numbers.{grantLimit}
+use Rattle.rules.specs.Facts.{SoundTo, Sound}
 use Rattle.rules.proofs.Changes.{slot-moved}
 use Rattle.rules.proofs.Steps.{term-kept, start-kept, settle-kept}
 use Rattle.rules.proofs.Choosing.{sound-wider}

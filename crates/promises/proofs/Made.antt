@@ -9,7 +9,7 @@ use Rattle.rules.specs.State.{State, at}
 use Rattle.rules.specs.Reply.{after}
 use Rattle.rules.specs.Next.{paying, settled, Chosen, nextCall}
 use Rattle.rules.specs.Calls.{Call, toNext, step, run, InRange, AllInRange}
-use Rattle.rules.proofs.Facts.{Sound}
+use Rattle.rules.specs.Facts.{Sound}
 use Rattle.rules.proofs.Served.{Served, served, eight}
 use Rattle.rules.proofs.Kept.{step-kept}
 use Rattle.promises.specs.Moments.{Moment, aTerm, aVisit, aSend, aCall, moved, movedBy, chooseMoments, nextMoments, isNext, momentsOf, momentsAlong}

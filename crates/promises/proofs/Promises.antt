@@ -4,10 +4,10 @@ use Prim.Native.Nat.{ℕ, _+_, _*_, _^_, _≤_}
 use mathlib.Core.Path.{_≡_, subst}
 use mathlib.Core.List.{List, _++_}
 use Rattle.spread.specs.Distance.{Near}
-use Rattle.rules.specs.Numbers.{granted, restLimit}
+use Rattle.rules.specs.Numbers.{granted, restLimit, grantLimit}
 use Rattle.rules.specs.State.{State, at}
 use Rattle.rules.specs.Calls.{Call, AllInRange}
-use Rattle.rules.proofs.Facts.{SoundTo, Sound, grantLimit}
+use Rattle.rules.specs.Facts.{SoundTo, Sound}
 use Rattle.rules.proofs.Choosing.{sound-wider}
 use Rattle.promises.specs.Moments.{Moment, movedBy, momentsAlong, sentAt, visitsAt, costAt, momentsTotal}
 use Rattle.promises.specs.Rounds.{Starts, Waits, MomentsThroughout, Steady, MomentsWithin, MomentsRound, perPosition, oneSent, visitsOf, costOf, total, Throughout, WithinRound, Round}

@@ -11,7 +11,7 @@ use Rattle.bits.proofs.OrderLaws.{order-lt}
 use Rattle.lists.specs.Slots.{occurs}
 use Rattle.lists.specs.Tests.{isEmpty}
 use Rattle.rules.specs.State.{State, fresh, at, weights}
-use Rattle.rules.proofs.Facts.{SoundTo}
+use Rattle.rules.specs.Facts.{SoundTo}
 use Rattle.rules.proofs.Columns.{orderOf-row}
 use Rattle.rules.proofs.Rows.{filled-row, row-weight}
 use Rattle.rules.proofs.Kept.{fresh-sound}

@@ -17,7 +17,7 @@ use Rattle.rules.specs.State.{State, fresh, cost, orderOf, columnOf}
 use Rattle.rules.specs.Reply.{Reply, after}
 use Rattle.rules.specs.Next.{scanning, nextCall}
 use Rattle.rules.specs.Calls.{lowest, openCall, putCall, closeCall, Call, toOpen, toPut, toClose, toNext, toStart, toAsk}
-use Rattle.rules.proofs.Facts.{Sound}
+use Rattle.rules.specs.Facts.{Sound}
 use Rattle.rules.proofs.Kept.{open-kept, put-kept, close-kept, next-kept, fresh-sound}
 use Rattle.memory.specs.Layout.{bytesOf}
 use Rattle.memory.specs.Memory.{replied, on}
