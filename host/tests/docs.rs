@@ -124,7 +124,7 @@ fn names_beside_links_are_defined_there() {
         }
     }
     assert!(wrong.is_empty(), "{}", wrong.join("\n"));
-    assert!(count > 5, "only {count} names were found");
+    assert!(count > 3, "only {count} names were found");
 }
 
 #[test]

@@ -10,7 +10,7 @@ use Rattle.answers.specs.Answer.{noneWaits, refused, given}
 use Rattle.rules.specs.State.{State, fresh, at}
 use Rattle.rules.specs.Reply.{Done, after}
 use Rattle.rules.specs.Next.{Sent, nextCall}
-use Rattle.rules.specs.Calls.{openCall, putCall, closeCall, askCall, startCall, Call, toOpen, toPut, toClose, toNext, toStart, toAsk, openFields, putFields, closeFields, nextFields, askFields, reply, ofNext, step}
+use Rattle.rules.specs.Calls.{openCall, putCall, closeCall, askCall, startCall, Call, toOpen, toPut, toClose, toNext, toStart, toAsk, openFields, putFields, closeFields, nextFields, askFields, reply, step}
 use Rattle.rules.specs.Facts.{Sound}
 use Rattle.rules.proofs.Cases.{by-answer, after-under, only-next}
 use Rattle.rules.proofs.Frames.{OpenLeaves, open-leaves, PutLeaves, put-leaves, CloseLeaves, close-leaves, ask-leaves}
@@ -43,15 +43,7 @@ counted-refused f s e = rw e refl
 -- ---- any other call
 
 pub counted-other : (f : Sent → ℕ) (s : State) (c : Call) → isNext c ≡ false → counted f s c ≡ 0
-counted-other f s c e = only-next 0 f c s ∙ go c e
-  where
-    go : (c : Call) → isNext c ≡ false → ofNext 0 (counted f s toNext) c ≡ 0
-    go (toOpen w) e = refl
-    go (toPut i t n r) e = refl
-    go (toClose i t) e = refl
-    go toNext e = absurd (true≢false e)
-    go toStart e = refl
-    go (toAsk i t) e = refl
+counted-other f s c e = only-next 0 f c s e
 
 -- what a round looks at of slot i is the same
 pub record Alone (i : ℕ) (s s′ : State) : Type 0 where
