@@ -28,11 +28,11 @@ bits-of-requires c κs = search needs
 write-u64-requires : tie.Need-write-u64-requires
 write-u64-requires c κs = search needs
 
-enum-told : tie.Need-enum-told
-enum-told c = search needs
+enum-known-why : tie.Need-enum-known-why
+enum-known-why c = search needs
 
-clear-requires : tie.Need-clear-requires
-clear-requires c κs = search needs
+refuse-requires : tie.Need-refuse-requires
+refuse-requires c κs = search needs
 
 same-length : tie.Need-same-length
 same-length c = search needs
@@ -54,9 +54,9 @@ same-length-2 c = search needs
 returns-3 : tie.Need-returns-3
 returns-3 c =
     let done = c .before .before in
-    let told = done .before .before .enum-told .given .1 in
-    let call = done .before .before .before .before in
-    entered-refused _ _ _ _ _ _ (call .before .if1 .left) (ap stateless (rw told at (call .lead .ensures))) (refl, done .clear .ensures)
+    let told = done .before .before .before .why .given .1 in
+    let call = done .before .before .before .before .before in
+    entered-refused _ _ _ _ _ _ (call .before .if1 .left) (ap stateless (rw told at (call .lead .ensures))) (done .refuse .ensures)
 
 pub uplink-lead-spec : {M : Type 1} → statement M
 uplink-lead-spec =
@@ -68,8 +68,8 @@ uplink-lead-spec =
     enum-known-lead
     bits-of-requires
     write-u64-requires
-    enum-told
-    clear-requires
+    enum-known-why
+    refuse-requires
     same-length
     returns-2
     same-length-2

@@ -1,6 +1,6 @@
 -- A buffer of another length keeps all, a refusal has cleared it, and an answer's fields are its words.
 use borrow.Author.Needs.{needs}
-use mathlib.Core.Path.{refl, ap}
+use mathlib.Core.Path.{ap}
 use Rattle.driver.proofs.EnteredLaws.{entered-kept, entered-refused, entered-given}
 use Rattle.driver.specs.Entered.{stateless}
 use Rattle.driver.proofs.uplink_term.Statement.{statement}
@@ -24,11 +24,11 @@ slice-aggregate-give c = search needs
 give-requires : tie.Need-give-requires
 give-requires c κs = search needs
 
-enum-told : tie.Need-enum-told
-enum-told c = search needs
+enum-known-why : tie.Need-enum-known-why
+enum-known-why c = search needs
 
-clear-requires : tie.Need-clear-requires
-clear-requires c κs = search needs
+refuse-requires : tie.Need-refuse-requires
+refuse-requires c κs = search needs
 
 same-length : tie.Need-same-length
 same-length c = search needs
@@ -46,9 +46,9 @@ same-length-2 c = search needs
 returns-3 : tie.Need-returns-3
 returns-3 c =
     let done = c .before .before in
-    let told = done .before .before .enum-told .given .1 in
-    let call = done .before .before .before .before in
-    entered-refused _ _ _ _ _ _ (call .before .if1 .left) (ap stateless (rw told at (call .term .ensures))) (refl, done .clear .ensures)
+    let told = done .before .before .before .why .given .1 in
+    let call = done .before .before .before .before .before in
+    entered-refused _ _ _ _ _ _ (call .before .if1 .left) (ap stateless (rw told at (call .term .ensures))) (done .refuse .ensures)
 
 pub uplink-term-spec : {M : Type 1} → statement M
 uplink-term-spec =
@@ -60,8 +60,8 @@ uplink-term-spec =
     enum-known-term
     slice-aggregate-give
     give-requires
-    enum-told
-    clear-requires
+    enum-known-why
+    refuse-requires
     same-length
     returns-2
     same-length-2
