@@ -84,7 +84,7 @@ follows {s} S l = go (commandOf l) refl
         record {
           line = on-line 80 takenFields (putCall i t n r) S;
           memory = on-after (putCall i t n r) S;
-          sound = put-kept i t n r s (omega (arith, command-exact l (toPut i t n r) .0 e .within .3)) S;
+          sound = put-kept i t n r s (omega (arith, command-exact l (toPut i t n r) .0 e .decimals .3)) S;
         }
     go (some (toClose i t)) e = record { line = on-line 67 closedFields (closeCall i t) S; memory = on-after (closeCall i t) S; sound = close-kept i t s S }
     go (some toNext) e = record { line = on-line 78 sentFields nextCall S; memory = on-after nextCall S; sound = next-kept s S }
