@@ -8,6 +8,5 @@ pub mod ShownCommands
 pub mod ReadLines
 pub mod PrintingLaws
 pub mod OutputLaws
-pub mod SessionLaws
 pub mod PrintedLines
 pub mod RuledOutput

@@ -5,7 +5,6 @@ use mathlib.Core.List.{List, [], _∷_, _++_}
 use mathlib.Core.Option.{Option, none, some}
 use Prim.Native.Nat.{ℕ, _≤_}
 use native.Mathlib.Omega.{arith}
-use borrow.Author.Tests.{le-ltb}
 use lib.ListN.{length}
 use Rattle.bits.specs.Bit.{bit}
 use Rattle.bits.specs.Order.{order}
@@ -22,19 +21,20 @@ use Rattle.rules.proofs.Kept.{open-kept, put-kept, close-kept, next-kept, fresh
 use Rattle.memory.specs.Layout.{bytesOf}
 use Rattle.memory.specs.Memory.{replied, on}
 use Rattle.memory.proofs.OnLaws.{on-sound, on-after}
-use Rattle.memory.proofs.Fresh.{fresh-zeros}
 use Rattle.text.specs.Lines.{linesOf}
 use Rattle.text.specs.Digits.{digitsBy, isDigit, digitsOff, numberOff, spacedOff}
 use Rattle.text.specs.Commands.{commandOf}
 use Rattle.text.specs.Writing.{answerLine}
 use Rattle.text.specs.Answers.{openedFields, takenFields, closedFields, sentFields, said, unknown, answerTo, output, most, lift}
 use Rattle.text.proofs.ShownCommands.{command-exact}
+use Rattle.text.proofs.OutputLaws.{lift-short}
 
 -- the state left and the line printed
 pub record Ruled : Type 0 where
   pub state : State
   pub line : List ℕ
 
+-- `R` is 82
 abbrev pub replyLine : {A : Type 0} → ℕ → (A → List ℕ) → Reply A → List ℕ
 replyLine letter fields (refused n) = answerLine 82 (numberOf n ∷ [])
 replyLine letter fields (given d) = answerLine letter (fields (d .fields))
@@ -45,7 +45,7 @@ ruled s letter fields r = record { state = after s r; line = replyLine letter fi
 abbrev pub passed : State → Ruled
 passed s = record { state = s; line = unknown }
 
--- what the rules say to a line, in the state s
+-- what the rules say to a line, in the state s, by its letter: `O` is 79, `P` 80, `C` 67, `N` 78
 abbrev pub ruledTo : State → Option Call → Ruled
 ruledTo s none = passed s
 ruledTo s (some (toOpen w)) = ruled s 79 openedFields (openCall w s)
@@ -84,7 +84,7 @@ follows {s} S l = go (commandOf l) refl
         record {
           line = on-line 80 takenFields (putCall i t n r) S;
           memory = on-after (putCall i t n r) S;
-          sound = put-kept i t n r s (omega (arith, command-exact l (toPut i t n r) .0 e .within .3)) S;
+          sound = put-kept i t n r s (omega (arith, command-exact l (toPut i t n r) .0 e .decimals .3)) S;
         }
     go (some (toClose i t)) e = record { line = on-line 67 closedFields (closeCall i t) S; memory = on-after (closeCall i t) S; sound = close-kept i t s S }
     go (some toNext) e = record { line = on-line 78 sentFields nextCall S; memory = on-after nextCall S; sound = next-kept s S }
@@ -100,10 +100,7 @@ output-ruled S (l ∷ ls) =
 
 -- an input that is not too long prints what the rules say to its lines, from the fresh state on
 pub lift-ruled : (input : List ℕ) → length input ≤ most → lift input ≡ ruledOutput fresh (linesOf input)
-unfolding lift
-lift-ruled input h =
-    rw (le-ltb most (length input) h)
-    (ap (λ (m : List ℕ). output m (linesOf input)) (sym fresh-zeros) ∙ output-ruled fresh-sound (linesOf input))
+lift-ruled input h = lift-short input h ∙ output-ruled fresh-sound (linesOf input)
 
 -- ---- The listing of document 01: the input, and "Output, whole".
 abbrev pub listed : List ℕ

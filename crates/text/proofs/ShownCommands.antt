@@ -10,7 +10,7 @@ use lib.Dec.{eqb}
 use borrow.Author.Tests.{eqb-true}
 use Rattle.rules.specs.Calls.{Call, toOpen, toPut, toClose, toNext, toStart, toAsk}
 use Rattle.text.specs.Digits.{largest, digits, Front, number, nothing, isDigit, spacedOff}
-use Rattle.text.specs.Commands.{spaced, shown, Within, Shows, byFront, withNumber, atEnd, openOf, putOf, closeOf, commandOf}
+use Rattle.text.specs.Commands.{spaced, shown, Decimals, Shows, byFront, withNumber, atEnd, openOf, putOf, closeOf, commandOf}
 use Rattle.text.proofs.NumberLaws.{Stops, spaced-read, spaced-written}
 
 -- ---- What is written is read.
@@ -24,7 +24,7 @@ spaced-stops (n ∷ ns) = refl
 withNumber-shown : (f : ℕ → List ℕ → Option Call) (n : ℕ) (ns : List ℕ) → n ≤ largest → withNumber f (spaced (n ∷ ns)) ≡ f n (spaced ns)
 withNumber-shown f n ns h = ap (byFront f) (spaced-read n (spaced ns) h (spaced-stops ns))
 
-shown-read : (c : Call) (l : List ℕ) → shown c ≡ some l → Within c → commandOf l ≡ some c
+shown-read : (c : Call) (l : List ℕ) → shown c ≡ some l → Decimals c → commandOf l ≡ some c
 unfolding commandOf
 shown-read (toOpen w) l e h =
     let is : l ≡ 79 ∷ spaced (w ∷ []) = cc in
@@ -67,8 +67,8 @@ spaced-more : (l rest ns : List ℕ) (v : ℕ) → l ≡ 32 ∷ digits v ++ rest
 spaced-more l rest ns v p q = p ∙ ap (λ (x : List ℕ). 32 ∷ digits v ++ x) q
 
 -- the line of d, where d is c
-shows : (x : ℕ) (l ns : List ℕ) (c d : Call) → shown d ≡ some (x ∷ spaced ns) → Within d → l ≡ spaced ns → d ≡ c → Shows (x ∷ l) c
-shows x l ns c d s w p q = record { line = ap shown (sym q) ∙ s ∙ ap (λ (t : List ℕ). some (x ∷ t)) (sym p); within = subst Within q w }
+shows : (x : ℕ) (l ns : List ℕ) (c d : Call) → shown d ≡ some (x ∷ spaced ns) → Decimals d → l ≡ spaced ns → d ≡ c → Shows (x ∷ l) c
+shows x l ns c d s w p q = record { line = ap shown (sym q) ∙ s ∙ ap (λ (t : List ℕ). some (x ∷ t)) (sym p); decimals = subst Decimals q w }
 
 open-written : (l : List ℕ) (c : Call) → openOf l ≡ some c → Shows (79 ∷ l) c
 open-written l c e = after-number (λ w. atEnd (toOpen w)) l c e (λ w a p h e.
@@ -112,7 +112,7 @@ read-shown (x ∷ l) c e =
 
 -- ---- The theorem: a line is read as a call exactly where it is the line of that call, with each number in range.
 pub command-exact : (l : List ℕ) (c : Call) → (commandOf l ≡ some c) ↔ Shows l c
-command-exact l c = (read-shown l c, λ (h : Shows l c). shown-read c l (h .line) (h .within))
+command-exact l c = (read-shown l c, λ (h : Shows l c). shown-read c l (h .line) (h .decimals))
 
 -- a line is the line of one call at most
 pub one-command : (l : List ℕ) (c d : Call) → Shows l c → Shows l d → c ≡ d

@@ -3,14 +3,13 @@ use mathlib.Core.Path.{_≡_}
 use mathlib.Core.Bool.{cond}
 use mathlib.Core.List.{List, [], _∷_, _++_}
 use mathlib.Core.Option.{Option, none, some}
-use Prim.Native.Nat.{ℕ, _+_, _≤_, _<_}
+use Prim.Native.Nat.{ℕ, _+_, _*_, _≤_}
 use lib.Dec.{ltb}
-use lib.ListN.{length, take, drop, replicate}
+use lib.ListN.{length, take}
 use Rattle.answers.specs.Answer.{numberOf, Answer, refused, given}
 use Rattle.rules.specs.Next.{Sent, nextCall}
 use Rattle.rules.specs.Calls.{Opened, Taken, Closed, openCall, putCall, closeCall, Call, toOpen, toPut, toClose, toNext, toStart, toAsk}
-use Rattle.memory.specs.Layout.{memoryLength}
-use Rattle.memory.specs.Memory.{Left, on}
+use Rattle.memory.specs.Memory.{Left, on, freshMemory}
 use Rattle.text.specs.Lines.{linesOf}
 use Rattle.text.specs.Commands.{commandOf}
 use Rattle.text.specs.Writing.{written, answerLine}
@@ -29,11 +28,12 @@ closedFields c = c .freed ∷ []
 abbrev pub sentFields : Sent → List ℕ
 sentFields s = s .slot ∷ s .ticket ∷ s .size ∷ s .reference ∷ s .serial ∷ s .started ∷ s .terms ∷ []
 
+-- `R` is 82
 abbrev pub said : {A : Type 0} → ℕ → (A → List ℕ) → Answer A → List ℕ
 said letter fields (given a) = answerLine letter (fields a)
 said letter fields (refused n) = answerLine 82 (numberOf n ∷ [])
 
--- `?` alone
+-- `?` alone: 63
 abbrev pub unknown : List ℕ
 unknown = 63 ∷ 10 ∷ []
 
@@ -50,7 +50,7 @@ printed letter fields left = record { bytes = left .bytes; line = said letter fi
 abbrev pub other : List ℕ → Printed
 other b = record { bytes = b; line = unknown }
 
--- a call on the memory b; no line asks for Start or Ask
+-- a call on the memory b, by its letter: `O` is 79, `P` 80, `C` 67, `N` 78; no line asks for Start or Ask
 abbrev pub callAnswer : List ℕ → Call → Printed
 callAnswer b (toOpen w) = printed 79 openedFields (on (openCall w) b)
 callAnswer b (toPut i t n r) = printed 80 takenFields (on (putCall i t n r) b)
@@ -68,10 +68,6 @@ abbrev pub lineAnswer : List ℕ → List ℕ → Printed
 lineAnswer b l = answerTo b (commandOf l)
 
 -- ---- The lines of a text, each given the memory that the one before it left.
-unfoldable pub leftBy : List ℕ → List (List ℕ) → List ℕ
-leftBy b [] = b
-leftBy b (l ∷ ls) = leftBy (lineAnswer b l .bytes) ls
-
 unfoldable pub output : List ℕ → List (List ℕ) → List ℕ
 output b [] = []
 output b (l ∷ ls) = lineAnswer b l .line ++ output (lineAnswer b l .bytes) ls
@@ -85,9 +81,9 @@ most = 65536
 abbrev pub tooLong : List ℕ
 tooLong = 63 ∷ 32 ∷ 105 ∷ 110 ∷ 112 ∷ 117 ∷ 116 ∷ 10 ∷ []
 
--- "Start writes the fresh state: all free, all zeros."
+-- "Start writes the fresh state": the lines are answered from there on
 unfoldable pub lift : List ℕ → List ℕ
-lift input = cond (ltb most (length input)) tooLong (output (replicate memoryLength 0) (linesOf input))
+lift input = cond (ltb most (length input)) tooLong (output freshMemory (linesOf input))
 
 -- ---- What the code says of what it wrote.
 
@@ -101,13 +97,16 @@ pub record Prints (before : List ℕ) (at : ℕ) (line : List ℕ) (r : ℕ) (af
   pub text : after ≡ written before at line
   pub short : length line ≤ widest
 
--- the lines of s from `at` to `next` are answered, on the memory b and then on `left`: their output is the first `place` bytes of `out`
-pub record Session (s : List ℕ) (at : ℕ) (b : List ℕ) (next place : ℕ) (left out : List ℕ) : Type 0 where
-  pub answered : List (List ℕ)
-  pub lines : linesOf (drop at s) ≡ answered ++ linesOf (drop next s)
-  pub text : take place out ≡ output b answered
-  pub memory : left ≡ leftBy b answered
-  pub within : next ≤ length s
-  pub room : place ≤ length out
-  -- where text is left and there is room for a line, at least one is answered
-  pub on : at < length s → widest ≤ length out → at < next
+abbrev pub halfWidest : ℕ
+halfWidest = 40
+
+-- room for what n bytes of text print: an empty line prints `?`; any other has two bytes, its line feed with it, or is the last
+abbrev pub roomFor : ℕ → ℕ
+roomFor n = halfWidest * n + halfWidest
+
+-- the first r bytes of `out` are the whole text
+pub record Stands (text : List ℕ) (r : ℕ) (out : List ℕ) : Type 0 where
+  pub whole : take r out ≡ text
+  pub room : r ≤ length out
+  -- this follows; whoever takes those bytes is asked for it
+  pub counted : r ≡ length (take r out)

@@ -17,7 +17,7 @@ abbrev pub spaced : List ℕ → List ℕ
 spaced [] = []
 spaced (n ∷ ns) = 32 ∷ digits n ++ spaced ns
 
--- the line of a command; Start and Ask have none
+-- the line of a command, by its letter: `O` is 79, `P` 80, `C` 67, `N` 78; Start and Ask have none
 abbrev pub shown : Call → Option (List ℕ)
 shown (toOpen w) = some (79 ∷ spaced (w ∷ []))
 shown (toPut i t n r) = some (80 ∷ spaced (i ∷ t ∷ n ∷ r ∷ []))
@@ -27,18 +27,18 @@ shown toStart = none
 shown (toAsk i t) = none
 
 -- "decimals up to 4,294,967,295": each number of the call is
-abbrev pub Within : Call → Type 0
-Within (toOpen w) = w ≤ largest
-Within (toPut i t n r) = (i ≤ largest) × (t ≤ largest) × (n ≤ largest) × (r ≤ largest)
-Within (toClose i t) = (i ≤ largest) × (t ≤ largest)
-Within toNext = Unit {0}
-Within toStart = Unit {0}
-Within (toAsk i t) = (i ≤ largest) × (t ≤ largest)
+abbrev pub Decimals : Call → Type 0
+Decimals (toOpen w) = w ≤ largest
+Decimals (toPut i t n r) = (i ≤ largest) × (t ≤ largest) × (n ≤ largest) × (r ≤ largest)
+Decimals (toClose i t) = (i ≤ largest) × (t ≤ largest)
+Decimals toNext = Unit {0}
+Decimals toStart = Unit {0}
+Decimals (toAsk i t) = (i ≤ largest) × (t ≤ largest)
 
 -- l is the line of the call c
 pub record Shows (l : List ℕ) (c : Call) : Type 0 where
   pub line : shown c ≡ some l
-  pub within : Within c
+  pub decimals : Decimals c
 
 -- ---- What a line asks for, read from the front as the program does.
 
@@ -65,7 +65,7 @@ putOf = withNumber (λ i. withNumber (λ t. withNumber (λ n. withNumber (λ r. 
 abbrev pub closeOf : List ℕ → Option Call
 closeOf = withNumber (λ i. withNumber (λ t. atEnd (toClose i t)))
 
--- none for "a line of any other form"
+-- none for "a line of any other form"; the letters are those above
 unfoldable pub commandOf : List ℕ → Option Call
 commandOf [] = none
 commandOf (c ∷ cs) =

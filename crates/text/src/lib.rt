@@ -2,9 +2,8 @@
 //
 // Document 01, "The command program". specs/ says what the lines of a text are, how a command is written and how it is read, and what is printed for an
 // input (`Answers.lift`); proofs/ShownCommands.antt shows that the commands read are exactly the lines of the four forms. `reader::line_at` reads the
-// line at a place, `answer::answer_line` answers it over the lent memory, and `session::session` goes on while the output has room. That sessions one
-// after the other print the whole output is proofs/OutputLaws.antt (`sessions-lift`), and that it is what the rules say proofs/RuledOutput.antt
-// (`lift-ruled`), with document 01's listing.
+// line at a place, `answer::answer_line` answers it over the lent memory, and `program::run` answers a whole input: its output is `lift` of it, and
+// proofs/RuledOutput.antt shows (`lift-ruled`) that this is what the rules say, with document 01's listing.
 
 pub mod decimal; // decimal.rt: a plain decimal at a place of a text
 pub mod lines; // lines.rt: where a line ends
@@ -13,4 +12,4 @@ pub mod reader; // reader.rt: the text and a place in it, held together
 pub mod writing; // writing.rt: bytes, decimals and lines put into a text
 pub mod printing; // printing.rt: the line of each answer
 pub mod answer; // answer.rt: one line answered over the lent memory
-pub mod session; // session.rt: lines answered while the output has room
+pub mod program; // program.rt: an input's whole output

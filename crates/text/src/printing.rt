@@ -8,7 +8,7 @@ ghost use Rattle.uplink.specs.Told.{openTold, putTold, closeTold, nextTold};
 ghost use Rattle.text.specs.Answers.{openedFields, takenFields, closedFields, sentFields, said, unknown, widest, Prints};
 ghost use mathlib.Core.List.{[], _∷_};
 ghost use Rattle.text.specs.Writing.{answerLine};
-use super::writing::put_byte;
+use super::writing::put_bytes;
 use super::writing::put_line;
 use answers::Refusal;
 use answers::number_of;
@@ -111,6 +111,5 @@ pub fn print_unknown(out: &mut [u8], at: usize) -> usize
     requires { ⌜ at + widest ≤ length (now out) ⌝ }
     ensures { λ r. ⌜ Prints (now (out .entry)) at unknown r (now (out .exit)) ⌝ }
 {
-    let next = put_byte(out, at, b'?');
-    put_byte(out, next, 10)
+    put_bytes(out, at, b"?\n")
 }
