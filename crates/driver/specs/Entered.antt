@@ -50,7 +50,7 @@ abbrev pub closeBytes : Closed → List ℕ
 closeBytes a = words (a .freed ∷ [])
 
 abbrev pub nextBytes : Sent → List ℕ
-nextBytes a = words (a .slot ∷ a .ticket ∷ a .size ∷ a .reference ∷ a .serial ∷ a .started ∷ a .terms ∷ [])
+nextBytes a = words (a .slot ∷ a .ticket ∷ a .length ∷ a .reference ∷ a .serial ∷ a .started ∷ a .terms ∷ [])
 
 abbrev pub askBytes : Asked → List ℕ
 askBytes a = words (a .kind ∷ a .weight ∷ a .deficit ∷ a .waiting ∷ [])

@@ -9,7 +9,7 @@ pub data Name : Type 0 where
   -- bytes that stand for nothing
   nothing : Name
   -- a number for each waiting record
-  size reference : Name
+  length reference : Name
 
 -- a number for each name, by which names are told apart; which number it is says nothing
 abbrev pub code : Name → ℕ
@@ -27,5 +27,5 @@ code column = 10
 code mask = 11
 code visit = 12
 code nothing = 13
-code size = 14
+code length = 14
 code reference = 15

@@ -26,7 +26,7 @@ abbrev pub closedFields : Closed → List ℕ
 closedFields c = c .freed ∷ []
 
 abbrev pub sentFields : Sent → List ℕ
-sentFields s = s .slot ∷ s .ticket ∷ s .size ∷ s .reference ∷ s .serial ∷ s .started ∷ s .terms ∷ []
+sentFields s = s .slot ∷ s .ticket ∷ s .length ∷ s .reference ∷ s .serial ∷ s .started ∷ s .terms ∷ []
 
 -- `R` is 82
 abbrev pub said : {A : Type 0} → ℕ → (A → List ℕ) → Answer A → List ℕ

@@ -62,14 +62,14 @@ fn send(state: &mut [u8], chosen: Chosen) -> NextAnswer
     let head = load_head(state, slot);
     let first = oldest(state, slot);
     let serial = head_serial(state, slot, head.serial);
-    let cost = cost_of(first.size);
+    let cost = cost_of(first.length);
     let paid = paying(head, chosen.started, cost);
     let scan = chosen.scan;
     settle(state, slot, paid, scan);
     NextAnswer::Sent {
         slot: slot as u32,
         ticket: head.ticket,
-        length: first.size as u32,
+        length: first.length as u32,
         reference: first.reference,
         serial,
         started: chosen.started,

@@ -135,7 +135,7 @@ fn row_stays(state: &mut [u8], slot: usize, head: Head, scan: Scan)
         → now (state .exit) ≡ bytesOf (rules.rowStays (z .state) slot h (z .channel))) ⌝ }
 {
     let next = oldest(state, slot);
-    let cost = cost_of(next.size);
+    let cost = cost_of(next.length);
     let visit = visit_left(slot, cost, head.deficit);
     let left = Scan {
         position: scan.position,
