@@ -1,12 +1,13 @@
 -- Numbers as the answer buffers hold them.
-use Prim.Native.Nat.{ℕ, zero, suc, _-_, _/_, _%_, _^_}
+use Prim.Native.Nat.{ℕ, zero, suc, _-_, _^_}
 use mathlib.Core.List.{List, [], _∷_, _++_}
+use Rattle.octets.specs.Number.{byte}
 use lib.IntN.{ℤ, pos, negsuc}
 
 -- the k lowest bytes of a number, lowest first
 unfoldable pub lowFirst : ℕ → ℕ → List ℕ
 lowFirst zero v = []
-lowFirst (suc k) v = lowFirst k v ++ v / 256 ^ k % 256 ∷ []
+lowFirst (suc k) v = lowFirst k v ++ byte k v ∷ []
 
 -- "A field is 4 bytes, lowest byte first."
 unfoldable pub words : List ℕ → List ℕ
