@@ -11,8 +11,10 @@ fn root() -> PathBuf {
 /// README.md and all of docs/.
 fn documents() -> Vec<PathBuf> {
     let mut found = vec![root().join("README.md"), root().join("host/README.md"), root().join("host/uplink/README.md")];
-    for entry in fs::read_dir(root().join("docs")).unwrap() {
-        found.push(entry.unwrap().path());
+    for folder in ["docs", "docs/requests"] {
+        for entry in fs::read_dir(root().join(folder)).unwrap() {
+            found.push(entry.unwrap().path());
+        }
     }
     found.retain(|path| path.extension().is_some_and(|kind| kind == "md"));
     found
@@ -159,4 +161,27 @@ fn edits_that_are_named_exist() {
         }
     }
     assert!(count > 30, "only {count} edits were found");
+}
+
+/// docs/EDITS.md says of each must-fail edit where it is refused.
+#[test]
+fn every_edit_is_said_to_be_refused_somewhere() {
+    let page = fs::read_to_string(root().join("docs/EDITS.md")).unwrap();
+    let mut missing = Vec::new();
+    let mut count = 0;
+    for krate in fs::read_dir(root().join("crates")).unwrap() {
+        let krate = krate.unwrap();
+        let Ok(edits) = fs::read_dir(krate.path().join("must-fail")) else { continue };
+        for edit in edits {
+            let edit = edit.unwrap().path();
+            let name = format!("{}/{}", krate.file_name().to_str().unwrap(), edit.file_stem().unwrap().to_str().unwrap());
+            let rows: Vec<&str> = page.lines().filter(|line| line.starts_with(&format!("| [{name}]("))).collect();
+            if rows.is_empty() || rows.iter().any(|row| row.contains("only the proof's shape")) {
+                missing.push(name);
+            }
+            count += 1;
+        }
+    }
+    assert!(missing.is_empty(), "run the gate, then host/edits.py >docs/EDITS.md: {}", missing.join(", "));
+    assert!(count > 80, "only {count} edits were found");
 }
