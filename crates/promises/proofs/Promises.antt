@@ -14,7 +14,7 @@ use Rattle.promises.specs.Rounds.{Starts, Waits, MomentsThroughout, Stea
 use Rattle.promises.proofs.Lawful.{Lawful, moved-by-kept, lawful-first, lawful-rest}
 use Rattle.promises.proofs.Made.{moments-along}
 use Rattle.promises.proofs.Counts.{sends-same, visits-same, costs-same, calls-total}
-use Rattle.promises.proofs.Rounds.{moments-visited, moments-near, moments-bytes}
+use Rattle.promises.proofs.Rounds.{moments-visited, moments-near, moments-cost}
 use Rattle.promises.proofs.Ends.{moments-end}
 use Rattle.promises.proofs.BetweenCalls.{calls-throughout, order-stable, waits-stable, calls-within, calls-round}
 
@@ -28,12 +28,12 @@ visited-by-weight i s cs S f R waits =
     (moments-visited i s (momentsAlong s cs) (sound-wider S) (moments-along cs f S .lawful) (calls-round f S R)
     (calls-throughout (waits-stable (s .order) i) cs f S waits))
 
--- "and sends at least 1,024w - 1,023 and at most 1,024w + 1,023 bytes"
-pub bytes-by-weight : (i : ℕ) (s : State) (cs : List Call) → Sound s → AllInRange cs → Round s cs → Throughout (Waits (s .order) i) s cs
+-- "and sends at least 1,024w - 1,023 and at most 1,024w + 1,023 bytes": "Demand 3's bytes read as cost." (02 §1)
+pub cost-by-weight : (i : ℕ) (s : State) (cs : List Call) → Sound s → AllInRange cs → Round s cs → Throughout (Waits (s .order) i) s cs
     → (granted * at (s .channels) i .weight ≤ total (costOf i) s cs + restLimit) × (total (costOf i) s cs ≤ granted * at (s .channels) i .weight + restLimit)
-bytes-by-weight i s cs S f R waits =
+cost-by-weight i s cs S f R waits =
     rw (← calls-total (costs-same i) cs s f S)
-    (moments-bytes i s (momentsAlong s cs) (sound-wider S) (moments-along cs f S .lawful) (calls-round f S R)
+    (moments-cost i s (momentsAlong s cs) (sound-wider S) (moments-along cs f S .lawful) (calls-round f S R)
     (calls-throughout (waits-stable (s .order) i) cs f S waits))
 
 -- "twice the distance between w1 times the second's visits and w2 times the first's is at most the larger weight times the larger of 2 and the order":
@@ -73,10 +73,10 @@ module _ (s : State) (cs : List Call) (S : Sound s) (f : AllInRange cs) (xs ms y
   pub part-visited : (i : ℕ) → MomentsRound from ms → Steady (from .order) i from ms → momentsTotal (visitsAt i) from ms ≡ at (from .channels) i .weight
   part-visited i R st = moments-visited i from ms sound-from part R st
 
-  pub part-bytes : (i : ℕ) → MomentsRound from ms → Steady (from .order) i from ms
+  pub part-cost : (i : ℕ) → MomentsRound from ms → Steady (from .order) i from ms
       → (granted * at (from .channels) i .weight ≤ momentsTotal (costAt i) from ms + restLimit)
       × (momentsTotal (costAt i) from ms ≤ granted * at (from .channels) i .weight + restLimit)
-  part-bytes i R st = moments-bytes i from ms sound-from part R st
+  part-cost i R st = moments-cost i from ms sound-from part R st
 
   -- so at every moment of a round
   pub part-near : (i j : ℕ) → Starts from → MomentsWithin 0 from ms → Steady (from .order) i from ms → Steady (from .order) j from ms

@@ -12,13 +12,13 @@ open-line : commandOf (79 ∷ 32 ∷ 49 ∷ []) ≡ some (toOpen 1)
 unfolding commandOf spacedOff numberOff digitsOff isDigit
 open-line = refl
 
--- `P 0 1 1024 7`
-put-line : commandOf (80 ∷ 32 ∷ 48 ∷ 32 ∷ 49 ∷ 32 ∷ 49 ∷ 48 ∷ 50 ∷ 52 ∷ 32 ∷ 55 ∷ []) ≡ some (toPut 0 1 1024 7)
+-- `P 0 1 1014 7`
+put-line : commandOf (80 ∷ 32 ∷ 48 ∷ 32 ∷ 49 ∷ 32 ∷ 49 ∷ 48 ∷ 49 ∷ 52 ∷ 32 ∷ 55 ∷ []) ≡ some (toPut 0 1 1014 7)
 unfolding commandOf spacedOff numberOff digitsOff isDigit
 put-line = refl
 
 -- the same, written
-put-shown : shown (toPut 0 1 1024 7) ≡ some (80 ∷ 32 ∷ 48 ∷ 32 ∷ 49 ∷ 32 ∷ 49 ∷ 48 ∷ 50 ∷ 52 ∷ 32 ∷ 55 ∷ [])
+put-shown : shown (toPut 0 1 1014 7) ≡ some (80 ∷ 32 ∷ 48 ∷ 32 ∷ 49 ∷ 32 ∷ 49 ∷ 48 ∷ 49 ∷ 52 ∷ 32 ∷ 55 ∷ [])
 unfolding digitsBy
 put-shown = refl
 

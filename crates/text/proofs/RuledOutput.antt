@@ -102,12 +102,12 @@ output-ruled S (l ∷ ls) =
 pub lift-ruled : (input : List ℕ) → length input ≤ most → lift input ≡ ruledOutput fresh (linesOf input)
 lift-ruled input h = lift-short input h ∙ output-ruled fresh-sound (linesOf input)
 
--- ---- The listing of document 01: the input, and "Output, whole".
+-- ---- The listing of document 01 with 1,014 for 1,024 (02 §1): the input, and "Output, whole".
 abbrev pub listed : List ℕ
 listed =
     79 ∷ 32 ∷ 49 ∷ 10
     ∷ 79 ∷ 32 ∷ 50 ∷ 10
-    ∷ 80 ∷ 32 ∷ 48 ∷ 32 ∷ 49 ∷ 32 ∷ 49 ∷ 48 ∷ 50 ∷ 52 ∷ 32 ∷ 55 ∷ 10
+    ∷ 80 ∷ 32 ∷ 48 ∷ 32 ∷ 49 ∷ 32 ∷ 49 ∷ 48 ∷ 49 ∷ 52 ∷ 32 ∷ 55 ∷ 10
     ∷ 80 ∷ 32 ∷ 49 ∷ 32 ∷ 49 ∷ 32 ∷ 54 ∷ 48 ∷ 48 ∷ 32 ∷ 56 ∷ 10
     ∷ 80 ∷ 32 ∷ 49 ∷ 32 ∷ 49 ∷ 32 ∷ 53 ∷ 48 ∷ 48 ∷ 32 ∷ 57 ∷ 10
     ∷ 78 ∷ 10
@@ -127,7 +127,7 @@ whole =
     ∷ 80 ∷ 32 ∷ 48 ∷ 32 ∷ 49 ∷ 10
     ∷ 80 ∷ 32 ∷ 49 ∷ 32 ∷ 50 ∷ 10
     ∷ 78 ∷ 32 ∷ 49 ∷ 32 ∷ 49 ∷ 32 ∷ 54 ∷ 48 ∷ 48 ∷ 32 ∷ 56 ∷ 32 ∷ 48 ∷ 32 ∷ 49 ∷ 32 ∷ 49 ∷ 10
-    ∷ 78 ∷ 32 ∷ 48 ∷ 32 ∷ 49 ∷ 32 ∷ 49 ∷ 48 ∷ 50 ∷ 52 ∷ 32 ∷ 55 ∷ 32 ∷ 48 ∷ 32 ∷ 49 ∷ 32 ∷ 49 ∷ 10
+    ∷ 78 ∷ 32 ∷ 48 ∷ 32 ∷ 49 ∷ 32 ∷ 49 ∷ 48 ∷ 49 ∷ 52 ∷ 32 ∷ 55 ∷ 32 ∷ 48 ∷ 32 ∷ 49 ∷ 32 ∷ 49 ∷ 10
     ∷ 67 ∷ 32 ∷ 49 ∷ 10
     ∷ 78 ∷ 32 ∷ 49 ∷ 32 ∷ 49 ∷ 32 ∷ 53 ∷ 48 ∷ 48 ∷ 32 ∷ 57 ∷ 32 ∷ 49 ∷ 32 ∷ 49 ∷ 32 ∷ 49 ∷ 10
     ∷ 82 ∷ 32 ∷ 56 ∷ 10

@@ -53,7 +53,7 @@ fn next_in(state: &mut [u8]) -> NextAnswer
     send(state, chosen)
 }
 
-// "The head record is sent and its length taken from the deficit."
+// "The head record is sent and its length taken from the deficit": its cost, by 02 §1.
 fn send(state: &mut [u8], chosen: Chosen) -> NextAnswer
     requires { ⌜ Chose (now state) chosen ⌝ }
     ensures { λ r. ⌜ leaving (nextTold r) (now (state .exit)) ≡ replied (now (state .entry)) (nextCall (stateOf (now (state .entry)))) ⌝ }
