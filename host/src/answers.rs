@@ -10,7 +10,7 @@ pub enum Refusal {
     NotPresent = 2,
     /// "channel is closing"
     AtClosing = 3,
-    /// "length 0 or above 1,024"
+    /// "length 0 or above 1,014"
     BadLength = 4,
     /// "16 records wait already"
     Full = 5,

@@ -4,7 +4,7 @@ use host::answers::{Opened, Refusal, Sent};
 use host::engine::Engine;
 use host::layout;
 use host::model::{answer_bytes, apart, on, Model};
-use host::scheduler::{Kind, Scheduler, LAST_TICKET};
+use host::scheduler::{Kind, Scheduler, LAST_TICKET, LONGEST};
 use host::spread;
 
 #[derive(Clone, Copy, Debug, PartialEq, Eq)]
@@ -182,7 +182,7 @@ impl Wrong {
             Slip::DeficitKept if emptied && !closing => channel.deficit = deficit,
             Slip::ClosingKept if emptied && closing => *channel = host::scheduler::Channel { kind: Kind::Open, deficit: 0, ..kept },
             Slip::VisitDecidedLate if !emptied => scheduler.scan.visit = Some(slot),
-            Slip::LessForAtMost if !emptied && channel.records[0].length == deficit => scheduler.scan.visit = None,
+            Slip::LessForAtMost if !emptied && channel.records[0].cost() == deficit => scheduler.scan.visit = None,
             Slip::PositionOne if scheduler.order > 0 && scheduler.order < order && position > 0 => {
                 scheduler.scan.position = scheduler.scan.position.max(1);
             }
@@ -210,7 +210,7 @@ impl Engine for Wrong {
                     Err(Refusal::BadLength) if self.is(Slip::FiveBeforeFour) && before.channels[slot as usize].records.len() == 16 => {
                         return Err(Refusal::Full);
                     }
-                    Err(Refusal::AtClosing) if self.is(Slip::FourBeforeThree) && !(1..=1_024).contains(&length) => {
+                    Err(Refusal::AtClosing) if self.is(Slip::FourBeforeThree) && !(1..=LONGEST).contains(&u64::from(length)) => {
                         return Err(Refusal::BadLength);
                     }
                     _ => {}
