@@ -35,7 +35,7 @@ pub fn picture() -> String {
     let mut picture = Picture::new(&title, shows, 530.0);
     let length = u64::from(LOAD.length);
     let subtitle = format!(
-        "{ROUNDS} rounds of {} sends. {} records of {} bytes wait on each channel at the start, so that none runs empty; each costs {} with its framing.",
+        "{ROUNDS} rounds of {} sends. At the start {} records of {} bytes, {} with framing, wait on each channel, so that none runs empty.",
         LOAD.round(),
         LOAD.records,
         grouped(length),
