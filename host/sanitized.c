@@ -150,23 +150,26 @@ static void everywhere(const struct call *c, const uint8_t *before, struct left 
     }
 }
 
-/* ---- The script: the listing of document 01, a board pulled and pushed back, and the edges of the numbers. */
+/* ---- The script: the listing of document 01, a board pulled and pushed back, what records cost, and the edges of the numbers. */
 
 struct step {
     enum kind kind;
     uint32_t numbers[4], number, fields[7];
 };
 
+/* The length of a record that costs half a grant. */
+enum { HALF = UPLINK_GRANTED / 2 - UPLINK_FRAMING };
+
 static const struct step script[] = {
     {START, {0}, 0, {0}},
     {OPEN, {1}, 0, {0, 1}},
     {OPEN, {2}, 0, {1, 1}},
-    {PUT, {0, 1, 1024, 7}, 0, {0, 1}},
+    {PUT, {0, 1, 1014, 7}, 0, {0, 1}},
     {PUT, {1, 1, 600, 8}, 0, {0, 1}},
     {PUT, {1, 1, 500, 9}, 0, {1, 2}},
     {NEXT, {0}, 0, {1, 1, 600, 8, 0, 1, 1}},
-    {ASK, {1, 1}, 0, {1, 2, UPLINK_GRANTED - 600, 1}},
-    {NEXT, {0}, 0, {0, 1, 1024, 7, 0, 1, 1}},
+    {ASK, {1, 1}, 0, {1, 2, UPLINK_GRANTED - 600 - UPLINK_FRAMING, 1}},
+    {NEXT, {0}, 0, {0, 1, 1014, 7, 0, 1, 1}},
     {CLOSE, {0, 1}, 0, {1}},
     {NEXT, {0}, 0, {1, 1, 500, 9, 1, 1, 1}},
     {NEXT, {0}, UPLINK_NONE_WAITS, {0}},
@@ -189,6 +192,17 @@ static const struct step script[] = {
     {ASK, {0, 2}, 0, {1, 3, 0, 1}},
     {ASK, {0, 1}, UPLINK_NOT_PRESENT, {0}},
     {NEXT, {0}, 0, {0, 2, 400, 3, 0, 1, 1}},
+
+    /* Two records that cost a grant are sent in one visit; with one byte more they are not. */
+    {PUT, {0, 2, HALF, 4}, 0, {1, 1}},
+    {PUT, {0, 2, HALF, 5}, 0, {2, 2}},
+    {NEXT, {0}, 0, {0, 2, HALF, 4, 1, 1, 1}},
+    {ASK, {0, 2}, 0, {1, 3, UPLINK_GRANTED / 2, 1}},
+    {NEXT, {0}, 0, {0, 2, HALF, 5, 2, 0, 0}},
+    {PUT, {0, 2, HALF, 6}, 0, {3, 1}},
+    {PUT, {0, 2, HALF + 1, 7}, 0, {4, 2}},
+    {NEXT, {0}, 0, {0, 2, HALF, 6, 3, 1, 1}},
+    {NEXT, {0}, 0, {0, 2, HALF + 1, 7, 4, 1, 1}},
 
     {OPEN, {0}, UPLINK_BAD_WEIGHT, {0}},
     {OPEN, {UPLINK_HEAVIEST + 1}, UPLINK_BAD_WEIGHT, {0}},
@@ -268,7 +282,7 @@ static struct call any_call(void)
     c.answer_length = right[c.kind];
     c.numbers[0] = c.kind == OPEN || c.kind == LEAD ? below(4097) : c.kind == TERM ? below(14) : below(65);
     c.numbers[1] = c.kind == TERM ? below(4097) : 1 + below(below(8) ? 2 : 6);
-    c.numbers[2] = c.kind == LEAD ? below(4097) : below(8) ? 1 + below(1024) : below(1026);
+    c.numbers[2] = c.kind == LEAD ? below(4097) : below(8) ? 1 + below(UPLINK_LONGEST) : below(UPLINK_LONGEST + 2);
     c.numbers[3] = below(UINT32_MAX);
     if (c.kind != START && below(32) == 0)
         c.answer_length = below(WIDEST);

@@ -31,7 +31,7 @@ extern "C" {
 #endif
 
 /* Version of this interface: major * 10000 + minor * 100 + patch. */
-#define UPLINK_VERSION 10100
+#define UPLINK_VERSION 10200
 
 /* Lengths in bytes of the lent state and of each call's answer. */
 #define UPLINK_STATE_LENGTH 7040
@@ -51,8 +51,12 @@ extern "C" {
 #define UPLINK_HEAVIEST 4095
 #define UPLINK_COLUMNS 12
 
-/* Lengths of records are 1 to UPLINK_LONGEST bytes. At most UPLINK_ROOM records wait in a channel. */
-#define UPLINK_LONGEST 1024
+/*
+ * Lengths of records are 1 to UPLINK_LONGEST bytes, without framing. A record costs its channel its length and
+ * UPLINK_FRAMING, which is what it takes on the link. At most UPLINK_ROOM records wait in a channel.
+ */
+#define UPLINK_LONGEST 1014
+#define UPLINK_FRAMING 10
 #define UPLINK_ROOM 16
 
 /* References are 0 to UPLINK_REFERENCES - 1. Serials are 0 to UPLINK_SERIALS - 1, and then 0 again. */
@@ -73,7 +77,7 @@ enum uplink_refusal {
     UPLINK_NO_SLOT = 1,     /* slot above 63 */
     UPLINK_NOT_PRESENT = 2, /* slot free, or ticket not its present one */
     UPLINK_AT_CLOSING = 3,  /* channel is closing */
-    UPLINK_BAD_LENGTH = 4,  /* length 0 or above 1,024 */
+    UPLINK_BAD_LENGTH = 4,  /* length 0 or above 1,014 */
     UPLINK_FULL = 5,        /* 16 records wait already */
     UPLINK_BAD_WEIGHT = 6,  /* weight 0 or above 4,095 */
     UPLINK_NONE_FREE = 7,   /* no slot can be opened */
@@ -90,8 +94,8 @@ uint32_t uplink_start(uint8_t *state, size_t state_length);
 uint32_t uplink_open(uint8_t *state, size_t state_length, uint32_t weight, uint8_t *answer, size_t answer_length);
 
 /*
- * Adds a record of a length. The reference is any number by which the driver finds the record's bytes again; they stay
- * with the driver. Answer: serial, number now waiting.
+ * Adds a record of a length, which does not count its framing. The reference is any number by which the driver finds
+ * the record's bytes again; they stay with the driver. Answer: serial, number now waiting.
  */
 uint32_t uplink_put(uint8_t *state, size_t state_length, uint32_t slot, uint32_t ticket, uint32_t length,
                     uint32_t reference, uint8_t *answer, size_t answer_length);

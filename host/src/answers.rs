@@ -1,5 +1,5 @@
-//! The answers of the calls and the numbers sent back (document 01, "The calls" and "Numbers sent back"), for the independent scheduler: written from
-//! that document, not taken from the wrapper.
+//! The answers of the calls and the numbers sent back (document 01, "The calls" and "Numbers sent back"; the longest length is document 02's), for the
+//! independent scheduler: written from the documents, not taken from the wrapper.
 
 /// Why a call is refused: document 01's number, under the header's name.
 #[derive(Clone, Copy, Debug, PartialEq, Eq)]
@@ -10,7 +10,7 @@ pub enum Refusal {
     NotPresent = 2,
     /// "channel is closing"
     AtClosing = 3,
-    /// "length 0 or above 1,024"
+    /// "length 0 or above 1,014"
     BadLength = 4,
     /// "16 records wait already"
     Full = 5,

@@ -9,7 +9,8 @@ struct Slot {
     waiting: usize,
     weight: u32,
     deficit: u32,
-    head: u32,
+    /// What its head record costs.
+    cost: u32,
 }
 
 pub fn record_by_record(bytes: &[u8]) -> bool {
@@ -60,18 +61,18 @@ fn check_slot(bytes: &[u8], slot: usize, place: usize) -> Option<Slot> {
         return None;
     }
     for at in place..place + waiting {
-        if !(1..=1_024).contains(&length_at(bytes, at)) {
+        if !(1..=1_014).contains(&length_at(bytes, at)) {
             return None;
         }
     }
-    let head = if waiting > 0 { length_at(bytes, place) } else { 0 };
+    let cost = if waiting > 0 { length_at(bytes, place) + 10 } else { 0 };
     let in_visit = usize::from(bytes[845]) == slot + 1;
     let most = match (waiting, in_visit) {
         (0, _) => 0,
         (_, true) => 2_046,
         (_, false) => 1_023,
     };
-    (deficit <= most).then_some(Slot { waiting, weight, deficit, head })
+    (deficit <= most).then_some(Slot { waiting, weight, deficit, cost })
 }
 
 /// Each slot with records is a row once, no other is; zeros follow; the order is that of their weights.
@@ -107,7 +108,7 @@ fn scan_holds(bytes: &[u8], slots: &[Slot; 64]) -> bool {
         if listed && (known.waiting == 0 || known.weight >> column & 1 == 0) {
             return false;
         }
-        if visit == slot + 1 && (listed || known.waiting == 0 || known.head > known.deficit) {
+        if visit == slot + 1 && (listed || known.waiting == 0 || known.cost > known.deficit) {
             return false;
         }
     }

@@ -2,7 +2,7 @@
 
 use crate::layout;
 use crate::random::Random;
-use crate::scheduler::{Kind, Record, Scheduler};
+use crate::scheduler::{Kind, Record, Scheduler, FRAMING};
 use crate::sound::Rule;
 use crate::states::{full, rich};
 
@@ -19,19 +19,23 @@ fn broken(name: &'static str, rules: &'static [Rule], from: Scheduler, change: f
     Breakage { name, rules, scheduler }
 }
 
-/// The state with one number just beyond its limit, or at most a byte beyond; a visit's own deficit may still be within.
+/// The state with one number just beyond its limit, or at most a byte beyond; some are still within, and then the state may be sound.
 pub fn beyond_a_limit(random: &mut Random, from: &Scheduler) -> Scheduler {
     let mut state = from.clone();
-    let choice = if state.rows.is_empty() { 0 } else { random.below(5) };
+    let choice = if state.rows.is_empty() { 0 } else { random.below(6) };
     match choice {
         0 => state.scan.position = 1 << state.order,
         1 => state.order += 1,
+        2 => visit_just_paid_for(random, &mut state),
         _ => {
             let channel = &mut state.channels[random.pick(&from.rows)];
             let record = random.below(channel.records.len() as u64) as usize;
             match choice {
-                2 => channel.records[record].length = random.pick(&[0, 1_025, 1_279]),
-                3 => channel.deficit = random.pick(&[1_024, 1_279, 2_047]),
+                3 => {
+                    let near = random.from_to(1_014, 1_024);
+                    channel.records[record].length = random.pick(&[0, 1_015, near, 1_279]);
+                }
+                4 => channel.deficit = random.pick(&[1_024, 1_279, 2_047]),
                 _ => {
                     // The order follows, so that the weight alone is wrong.
                     channel.weight = random.pick(&[4_096, 4_351]);
@@ -41,6 +45,18 @@ pub fn beyond_a_limit(random: &mut Random, from: &Scheduler) -> Scheduler {
         }
     }
     state
+}
+
+/// A row's visit is open, and its deficit just pays for what the head costs, or a byte more, or not: for its bare length alone, or for all but one byte.
+fn visit_just_paid_for(random: &mut Random, state: &mut Scheduler) {
+    let slot = state.scan.visit.unwrap_or_else(|| random.pick(&state.rows));
+    state.scan.to_visit.remove(&slot);
+    if state.scan.to_visit.is_empty() {
+        state.scan.column = 0;
+    }
+    state.scan.visit = Some(slot);
+    let channel = &mut state.channels[slot];
+    channel.deficit = channel.records[0].length + random.pick(&[0, FRAMING - 1, FRAMING, FRAMING + 1]);
 }
 
 /// Each rule over the plain structure, broken in turn.
@@ -72,7 +88,9 @@ fn of_channels() -> Vec<Breakage> {
         }),
         rich("a closing slot has no record", &[Rule::Held], |state| state.channels[2].kind = Kind::Closing),
         rich("a length is 0", &[Rule::Records], |state| state.channels[1].records[1].length = 0),
-        rich("a length is 1,025", &[Rule::Records], |state| state.channels[1].records[1].length = 1_025),
+        rich("a length is 1,015", &[Rule::Records], |state| state.channels[1].records[1].length = 1_015),
+        rich("a length is 1,016", &[Rule::Records], |state| state.channels[3].records[2].length = 1_016),
+        rich("a length is 1,024", &[Rule::Records], |state| state.channels[1].records[1].length = 1_024),
         rich("a length is 65,535", &[Rule::Records], |state| state.channels[5].records[15].length = 65_535),
         rich("a head's length is 0", &[Rule::Records], |state| state.channels[63].records[0].length = 0),
         rich("17 records wait", &[Rule::Records], |state| {
@@ -142,9 +160,11 @@ fn of_the_scan() -> Vec<Breakage> {
         rich("a visit of a free slot", &[Rule::Visit], |state| state.scan.visit = Some(0)),
         rich("a visit of a slot still to visit", &[Rule::Visit], |state| {
             state.scan.visit = Some(1);
-            state.channels[1].deficit = 300;
+            state.channels[1].deficit = 310;
         }),
-        rich("a visit whose head is above its deficit", &[Rule::Visit], |state| state.channels[63].deficit = 499),
+        rich("a visit whose head is longer than its deficit", &[Rule::Visit], |state| state.channels[63].deficit = 499),
+        rich("a visit whose deficit is its head's bare length", &[Rule::Visit], |state| state.channels[63].deficit = 500),
+        rich("a visit whose head costs a byte more than its deficit", &[Rule::Visit], |state| state.channels[63].deficit = 509),
         rich("a visit with deficit 0", &[Rule::Visit], |state| state.channels[63].deficit = 0),
         rich("a visit with deficit 2,047", &[Rule::Visit], |state| state.channels[63].deficit = 2_047),
         rich("a visit with deficit 65,535", &[Rule::Visit], |state| state.channels[63].deficit = 65_535),

@@ -5,12 +5,12 @@ use crate::damage::beyond_a_limit;
 use crate::history::{Call, History, Step};
 use crate::layout;
 use crate::random::Random;
-use crate::scheduler::{Kind, Scheduler, SLOTS};
+use crate::scheduler::{Kind, Record, Scheduler, FRAMING, GRANT, LONGEST, SLOTS};
 use crate::shapes::{Action, Shape, SHAPES};
 
 const BAD_SLOTS: [u32; 7] = [64, 65, 128, 256, 320, 0x8000_0000, u32::MAX];
 const BAD_WEIGHTS: [u32; 7] = [0, 4_096, 4_097, 8_191, 65_537, 0x8000_0001, u32::MAX];
-const BAD_LENGTHS: [u32; 7] = [0, 1_025, 1_026, 2_048, 65_537, 0x8000_0001, u32::MAX];
+const BAD_LENGTHS: [u32; 10] = [0, 1_015, 1_016, 1_023, 1_024, 1_025, 2_048, 65_537, 0x8000_0001, u32::MAX];
 const EDGES: [u32; 8] = [0, 1, 2, 0x7fff_ffff, 0x8000_0000, 0xffff_fffe, 0xffff_ffff, 0x0001_0000];
 
 /// The history of a seed; its shape goes by the seed too.
@@ -142,9 +142,21 @@ impl Builder {
     fn put(&mut self) {
         let deep = self.shape.deep;
         let (slot, ticket) = self.held(|waiting| waiting < deep);
-        let length = (self.shape.length)(&mut self.random);
+        let length = self.length(slot as usize);
         let reference = self.reference();
         self.push(Call::Put { slot, ticket, length, reference });
+    }
+
+    /// A length for one more record of a slot. Some are fitted to what the visit that gets to the record will have left: just enough for its cost, a byte
+    /// more or less, or enough for its bare length alone.
+    fn length(&mut self, slot: usize) -> u32 {
+        let channel = &self.now.channels[slot];
+        let granted = if self.now.scan.visit == Some(slot) { 0 } else { GRANT };
+        let before: u64 = channel.records.iter().map(Record::cost).sum();
+        match (channel.deficit + granted).checked_sub(before + FRAMING) {
+            Some(fits @ 2..=LONGEST) if self.random.chance(1, 6) => self.random.pick(&[fits - 1, fits, fits + 1, fits + FRAMING]) as u32,
+            _ => (self.shape.length)(&mut self.random),
+        }
     }
 
     fn reference(&mut self) -> u32 {

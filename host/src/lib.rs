@@ -1,6 +1,6 @@
 //! The scheduler's C entries compared with an independent scheduler.
 //!
-//! - [`scheduler`], [`steps`], [`sound`], [`spread`], [`answers`]: an independent scheduler, written from document 01 over plain
+//! - [`scheduler`], [`steps`], [`sound`], [`spread`], [`answers`]: an independent scheduler, written from documents 01 and 02 over plain
 //!   structures.
 //! - [`layout`]: the lent memory, written from and read into that scheduler; [`check`]: the same question asked record by record.
 //! - [`engine`], `linked` (feature `linked`), [`model`], [`history`], [`compare`], [`shrink`]: an engine under test is run beside the independent scheduler, call by

@@ -2,12 +2,12 @@
 //! a continuous period of time in proportion to the weight of the flow").
 //!
 //! The channels with records waiting stand in a list, in the order in which they joined. The first of them is visited: its deficit grows by its
-//! quantum, weight x 1,024 bytes, and it sends for as long as its head record is not longer than its deficit. Then it goes to the end of the
-//! list and keeps the rest; a channel without records leaves the list and its deficit is 0.
+//! quantum, weight x 1,024 bytes, and it sends for as long as its deficit pays for its head record, which costs what it costs the independent
+//! scheduler. Then it goes to the end of the list and keeps the rest; a channel without records leaves the list and its deficit is 0.
 
 use std::collections::VecDeque;
 
-use crate::scheduler::GRANT;
+use crate::scheduler::{cost_of, GRANT};
 
 /// A channel: what it is worth, what it may still send, and the lengths of its waiting records, oldest first.
 #[derive(Clone, Debug, PartialEq, Eq)]
@@ -42,7 +42,7 @@ impl Plain {
         self.channels.len() - 1
     }
 
-    /// Adds a record; the slot joins the rows at the end if it is the only one. Lengths are 1 to 1,024, so a visit sends at least one record.
+    /// Adds a record; the slot joins the rows at the end if it is the only one. It costs 1,024 at the most, so a visit sends at least one.
     pub fn put(&mut self, slot: usize, length: u64) {
         self.channels[slot].lengths.push_back(length);
         if self.channels[slot].lengths.len() == 1 {
@@ -60,8 +60,8 @@ impl Plain {
             channel.deficit += channel.weight * GRANT;
         }
         let length = channel.lengths.pop_front()?;
-        channel.deficit -= length;
-        self.visit = channel.lengths.front().is_some_and(|&head| head <= channel.deficit);
+        channel.deficit -= cost_of(length);
+        self.visit = channel.lengths.front().is_some_and(|&head| cost_of(head) <= channel.deficit);
         if !self.visit {
             self.rows.pop_front();
             if channel.lengths.is_empty() {

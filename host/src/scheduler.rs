@@ -1,4 +1,5 @@
-//! An independent scheduler, written from document 01 over plain structures: no byte layout, no code shared with the engine under test.
+//! An independent scheduler, written from document 01 and from §1 of document 02 over plain structures: no byte layout, no code shared with the
+//! engine under test.
 //!
 //! The numbers are wider than the rules allow, so that a state that breaks a rule can be held too; [`Scheduler::sound`] tells them apart.
 
@@ -10,7 +11,9 @@ pub const SLOTS: usize = 64;
 pub const LAST_TICKET: u64 = 4_294_967_295;
 pub const LARGEST_WEIGHT: u64 = 4_095;
 pub const COLUMNS: u64 = 12;
-pub const LONGEST: u64 = 1_024;
+pub const LONGEST: u64 = 1_014;
+/// What a record takes on the link beside its own bytes.
+pub const FRAMING: u64 = 10;
 pub const MOST_WAITING: usize = 16;
 pub const GRANT: u64 = 1_024;
 /// Serials are counted modulo this: 65,535 is followed by 0.
@@ -27,6 +30,17 @@ pub enum Kind {
 pub struct Record {
     pub length: u64,
     pub reference: u64,
+}
+
+/// "A record now costs its length plus 10, which is taken from the deficit and compared with it."
+pub fn cost_of(length: u64) -> u64 {
+    length + FRAMING
+}
+
+impl Record {
+    pub fn cost(&self) -> u64 {
+        cost_of(self.length)
+    }
 }
 
 /// What the state holds for one slot.

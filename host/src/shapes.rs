@@ -1,7 +1,7 @@
 //! The shapes of generated histories: where one begins, what it is fed with, and how often each action comes.
 
 use crate::random::Random;
-use crate::scheduler::Scheduler;
+use crate::scheduler::{Scheduler, LONGEST};
 use crate::states;
 
 /// What a history does next. Most are one call; some are a few calls that belong together.
@@ -82,21 +82,22 @@ fn far_weight(random: &mut Random) -> u32 {
 fn any_length(random: &mut Random) -> u32 {
     match random.below(3) {
         0 => length_at_edge(random),
-        _ => random.from_to(1, 1_024) as u32,
+        _ => random.from_to(1, LONGEST) as u32,
     }
 }
 
+/// Some two of them cost a grant together, or a byte more or less; of some, one's cost and the other's bare length make a grant.
 fn length_at_edge(random: &mut Random) -> u32 {
-    random.pick(&[1, 2, 511, 512, 513, 1_022, 1_023, 1_024])
+    random.pick(&[1, 2, 501, 502, 503, 511, 512, 1_002, 1_003, 1_004, 1_012, 1_013, 1_014])
 }
 
 fn long(_: &mut Random) -> u32 {
-    1_024
+    LONGEST as u32
 }
 
 /// Mostly short, so that visits stay open for some sends.
 fn short(random: &mut Random) -> u32 {
-    random.pick(&[1, 100, 200, 256, 341, 342, 512, 1_024])
+    random.pick(&[1, 90, 190, 246, 331, 332, 502, 1_014])
 }
 
 const PLAIN: &[(Action, u64)] = &[

@@ -7,7 +7,7 @@ use crate::compare::{run, state_call, Difference};
 use crate::engine::Engine;
 use crate::history::{Call, History, Step};
 use crate::layout;
-use crate::scheduler::{Channel, Scheduler, SLOTS};
+use crate::scheduler::{Channel, Scheduler, LONGEST, SLOTS};
 
 /// Steps that may be run while shrinking, so that a long history does not hold up the report.
 const STEPS: usize = 400_000;
@@ -127,7 +127,8 @@ fn plainer(call: Call) -> Vec<Call> {
         Call::Open { weight } => (1..weight.min(5)).map(|weight| Call::Open { weight }).collect(),
         Call::Put { slot, ticket, length, reference } => {
             let put = |slot, length, reference| Call::Put { slot, ticket, length, reference };
-            let plain = [put(0, 1_024, 1), put(slot, 1_024, 1), put(slot, length, 1), put(slot, 1_024, reference)];
+            let long = LONGEST as u32;
+            let plain = [put(0, long, 1), put(slot, long, 1), put(slot, length, 1), put(slot, long, reference)];
             plain.into_iter().take_while(|&plain| plain != call).collect()
         }
         Call::Close { slot, ticket } | Call::Ask { slot, ticket } if slot > 0 => vec![moved(call, (0, ticket))],

@@ -67,14 +67,15 @@ impl Scheduler {
         })
     }
 
-    /// "an open visit is of a row not still to visit, whose head length is at most its deficit, itself at most 2,046"
+    /// "an open visit is of a row not still to visit, whose head length is at most its deficit, itself at most 2,046": the deficit is compared with
+    /// what the head costs.
     fn visit_is_of_a_row(&self) -> bool {
         let Some(slot) = self.scan.visit else { return true };
         let Some(channel) = self.channels.get(slot) else { return false };
         let Some(head) = channel.records.front() else { return false };
         self.rows.contains(&slot)
             && !self.scan.to_visit.contains(&slot)
-            && head.length <= channel.deficit
+            && head.cost() <= channel.deficit
             && channel.deficit <= LARGEST_IN_VISIT
     }
 

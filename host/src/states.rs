@@ -2,7 +2,8 @@
 //! must be served all the same.
 
 use crate::random::Random;
-use crate::scheduler::{Channel, Kind, Record, Scheduler, LAST_TICKET, SLOTS};
+use crate::scheduler::{Channel, Kind, Record, Scheduler, FRAMING, GRANT, LAST_TICKET, LONGEST, SLOTS};
+use crate::sound::LARGEST_IN_VISIT;
 
 /// A channel with records of these lengths.
 pub fn channel(kind: Kind, ticket: u64, weight: u64, deficit: u64, next_serial: u64, lengths: &[u64]) -> Channel {
@@ -27,11 +28,11 @@ pub fn rich() -> Scheduler {
     let open = |ticket, weight, deficit, serial, lengths: &[u64]| channel(Kind::Open, ticket, weight, deficit, serial, lengths);
     let channels = [
         (0, channel(Kind::Free, 5, 0, 0, 0, &[])),
-        (1, open(1, 6, 0, 2, &[300, 1_024])),
+        (1, open(1, 6, 0, 2, &[300, 1_014])),
         (2, open(3, 4_095, 0, 65_535, &[])),
-        (3, channel(Kind::Closing, 9, 5, 1_023, 2, &[1, 1_023, 1_024])),
+        (3, channel(Kind::Closing, 9, 5, 1_023, 2, &[1, 1_013, 1_014])),
         (5, open(LAST_TICKET, 12, 10, 16, &[64; 16])),
-        (9, open(70_000, 4, 0, 1, &[1_024])),
+        (9, open(70_000, 4, 0, 1, &[1_014])),
         (63, open(2, 2, 800, 300, &[500, 600])),
     ];
     let mut scheduler = with_rows(&channels, &[9, 63, 3, 1, 5]);
@@ -46,7 +47,7 @@ pub fn rich() -> Scheduler {
 pub fn full() -> Scheduler {
     let mut scheduler = Scheduler::start();
     for slot in 0..SLOTS {
-        let lengths: Vec<u64> = (0..16).map(|place| 1 + (slot as u64 * 97 + place * 131) % 1_024).collect();
+        let lengths: Vec<u64> = (0..16).map(|place| 1 + (slot as u64 * 97 + place * 131) % LONGEST).collect();
         scheduler.channels[slot] = channel(Kind::Open, 1 + slot as u64, 1 + 64 * slot as u64, 0, 3, &lengths);
     }
     scheduler.rows = (0..SLOTS).map(|place| place * 37 % SLOTS).collect();
@@ -69,7 +70,7 @@ pub fn unreached() -> Vec<(&'static str, Scheduler)> {
     add("P is 0 with a list", |scheduler| scheduler.scan.position = 0);
     add("P is 2^k - 1 with a list and a visit", |scheduler| scheduler.scan.position = 15);
     add("a visit's deficit of 2,046", |scheduler| scheduler.channels[63].deficit = 2_046);
-    add("a visit whose head is its whole deficit", |scheduler| scheduler.channels[63].deficit = 500);
+    add("a visit whose head costs its whole deficit", |scheduler| scheduler.channels[63].deficit = 510);
     add("a list of every row of the column", |scheduler| scheduler.scan.to_visit = [1, 3, 5, 9].into());
     add("a list of column 0", |scheduler| {
         scheduler.scan.column = 0;
@@ -138,9 +139,9 @@ fn any_channel(random: &mut Random, ticket: u64, deep: u64) -> Channel {
 
 fn any_length(random: &mut Random) -> u64 {
     if random.chance(1, 3) {
-        random.pick(&[1, 2, 1_023, 1_024])
+        random.pick(&[1, 2, 1_013, 1_014])
     } else {
-        random.from_to(1, 1_024)
+        random.from_to(1, LONGEST)
     }
 }
 
@@ -158,8 +159,12 @@ fn any_scan(random: &mut Random, scheduler: &mut Scheduler) {
     let slot = random.pick(&scheduler.rows);
     if random.chance(1, 2) && !scheduler.scan.to_visit.contains(&slot) {
         scheduler.scan.visit = Some(slot);
-        let head = scheduler.channels[slot].records[0].length;
-        scheduler.channels[slot].deficit = random.pick(&[head, 2_046, 1_024.max(head)]);
+        let channel = &mut scheduler.channels[slot];
+        let cost = channel.records[0].cost();
+        // What the new head costs is just left for it, a byte more or less, or its bare length.
+        let next = channel.records.get(1).map_or(0, Record::cost);
+        let left = random.pick(&[next, next + 1, next.saturating_sub(1), next.saturating_sub(FRAMING)]);
+        channel.deficit = random.pick(&[cost, cost + 1, cost + left, GRANT.max(cost), LARGEST_IN_VISIT]).min(LARGEST_IN_VISIT);
     }
 }
 

@@ -68,11 +68,11 @@ impl Scheduler {
         self.channels[slot].deficit += GRANT;
     }
 
-    /// Step 3: the head record leaves and its length is taken from the deficit.
+    /// Step 3: the head record leaves and its cost is taken from the deficit.
     pub fn send(&mut self, slot: usize) -> Record {
         let channel = &mut self.channels[slot];
         let record = channel.records.pop_front().expect("a row has a record");
-        channel.deficit -= record.length;
+        channel.deficit -= record.cost();
         record
     }
 
@@ -90,7 +90,7 @@ impl Scheduler {
             self.scan.position %= 1 << self.order;
             return;
         };
-        if head.length > channel.deficit {
+        if head.cost() > channel.deficit {
             self.scan.visit = None;
         }
     }

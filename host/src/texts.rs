@@ -76,7 +76,7 @@ fn spoil(random: &mut Random, line: &mut Vec<u8>) {
         3 => line.truncate(place),
         4 => line.push(random.pick(b" \r0\0")),
         5 => line.extend(b" 4294967296"),
-        6 => *line = random.pick(&["O 4294967296", "O 4294967295", "C 4294967295 1", "N N", "X", "O 0", "P 0 1 1025 0", "n"]).into(),
+        6 => *line = random.pick(&["O 4294967296", "O 4294967295", "C 4294967295 1", "N N", "X", "O 0", "P 0 1 1015 0", "n"]).into(),
         _ => line.extend(b" 0"),
     }
 }

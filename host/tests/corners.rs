@@ -6,12 +6,12 @@ use host::compare::state_call;
 use host::generate::history;
 use host::history::{Call, Step};
 use host::layout;
-use host::scheduler::{Kind, Scheduler, LAST_TICKET};
+use host::scheduler::{cost_of, Kind, Scheduler, GRANT, LAST_TICKET, LONGEST};
 
 type Count = BTreeMap<&'static str, u32>;
 
 /// Every corner that is looked for.
-const CORNERS: [&str; 29] = [
+const CORNERS: [&str; 33] = [
     "order falls with slots to visit",
     "P becomes 0 after a fall, with rows",
     "P is 2^k - 1 after a fall",
@@ -23,8 +23,10 @@ const CORNERS: [&str; 29] = [
     "two terms taken",
     "no term taken for a new visit",
     "a visit goes on after the list is empty",
-    "a visit stays open with the head equal to the deficit",
-    "a visit ends with the head one above the deficit",
+    "a visit stays open with a deficit that just pays for the head",
+    "a visit stays open with one byte more than the head costs",
+    "a visit ends with one byte less than the head costs",
+    "a visit ends with a deficit of the head's bare length",
     "a visit ends with the last record",
     "a deficit is lost with the last record",
     "a deficit is kept for the next visit",
@@ -37,6 +39,8 @@ const CORNERS: [&str; 29] = [
     "no slot, though some are free",
     "no slot, all are held",
     "6 where 7 would be given too",
+    "a length of 1,014 is taken",
+    "a length of 1,015 is refused",
     "4 where 5 would be given too",
     "3 where 4 would be given too",
     "a channel is freed at once",
@@ -94,7 +98,10 @@ fn name(call: &Call) -> &'static str {
 fn look(before: &Scheduler, after: &Scheduler, call: &Call, result: &Result<Vec<u32>, u32>, count: &mut Count) {
     let mut met = |corner: &'static str, holds: bool| *count.get_mut(corner).expect("a corner of the list") += u32::from(holds);
     match (call, result) {
-        (Call::Put { slot, .. }, Ok(fields)) => look_at_put(before, after, *slot as usize, fields, &mut met),
+        (Call::Put { slot, length, .. }, Ok(fields)) => {
+            met("a length of 1,014 is taken", *length == 1_014);
+            look_at_put(before, after, *slot as usize, fields, &mut met);
+        }
         (Call::Next, Ok(fields)) => look_at_next(before, after, fields, &mut met),
         (Call::Open { .. }, Ok(fields)) => met("the last ticket is given", u64::from(fields[1]) == LAST_TICKET),
         (Call::Open { .. }, Err(number)) => {
@@ -105,8 +112,9 @@ fn look(before: &Scheduler, after: &Scheduler, call: &Call, result: &Result<Vec<
             met("6 where 7 would be given too", *number == 6 && !can_open);
         }
         (Call::Put { slot, length, .. }, Err(number)) if *slot < 64 => {
+            met("a length of 1,015 is refused", *number == 4 && *length == 1_015);
             met("4 where 5 would be given too", *number == 4 && before.channels[*slot as usize].records.len() == 16);
-            met("3 where 4 would be given too", *number == 3 && !(1..=1_024).contains(length));
+            met("3 where 4 would be given too", *number == 3 && !(1..=LONGEST).contains(&u64::from(*length)));
         }
         (Call::Close { .. }, Ok(fields)) => {
             met("a channel is freed at once", fields[0] == 1);
@@ -131,8 +139,8 @@ fn look_at_next(before: &Scheduler, after: &Scheduler, fields: &[u32], met: &mut
     let slot = fields[0] as usize;
     let (started, terms) = (fields[5] == 1, fields[6]);
     let (was, is) = (&before.channels[slot], &after.channels[slot]);
-    let granted = was.deficit + if started { 1_024 } else { 0 };
-    let left = granted - u64::from(fields[2]);
+    let granted = was.deficit + if started { GRANT } else { 0 };
+    let left = granted - cost_of(u64::from(fields[2]));
     let falls = after.order < before.order && after.order > 0;
     let listed = !after.scan.to_visit.is_empty();
     met("order falls with slots to visit", falls && listed);
@@ -148,8 +156,10 @@ fn look_at_next(before: &Scheduler, after: &Scheduler, fields: &[u32], met: &mut
     met("a deficit is lost with the last record", is.records.is_empty() && left > 0);
     met("a head's serial is from before the wrap", u64::from(fields[4]) > was.next_serial);
     if let Some(head) = is.records.front() {
-        met("a visit stays open with the head equal to the deficit", head.length == left);
-        met("a visit ends with the head one above the deficit", head.length == left + 1);
+        met("a visit stays open with a deficit that just pays for the head", head.cost() == left);
+        met("a visit stays open with one byte more than the head costs", head.cost() + 1 == left);
+        met("a visit ends with one byte less than the head costs", head.cost() == left + 1);
+        met("a visit ends with a deficit of the head's bare length", head.length == left);
         met("a deficit is kept for the next visit", after.scan.visit.is_none() && left > 0);
     }
     let first_listed = before.scan.to_visit.first().copied();

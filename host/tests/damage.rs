@@ -15,7 +15,7 @@ use host::states;
 const CALLS: [Call; 10] = [
     Call::Next,
     Call::Open { weight: 9 },
-    Call::Put { slot: 1, ticket: 1, length: 1_024, reference: 0xffff_fffe },
+    Call::Put { slot: 1, ticket: 1, length: 1_014, reference: 0xffff_fffe },
     Call::Close { slot: 1, ticket: 1 },
     Call::Ask { slot: 3, ticket: 9 },
     Call::Next,

@@ -1,4 +1,4 @@
-//! Document 01's own checks, on the independent scheduler and on the engine under test.
+//! Document 01's own checks, with document 02's lengths, on the independent scheduler and on the engine under test.
 
 mod common;
 
@@ -135,7 +135,7 @@ fn checks_1_to_4_terms() {
 #[test]
 fn check_5_weights_1_4_8_3() {
     on_both(|calls| {
-        calls.fill(&[1, 4, 8, 3], 16, 1_024);
+        calls.fill(&[1, 4, 8, 3], 16, 1_014);
         let slots: Vec<u32> = (0..16).map(|_| calls.next().unwrap().slot).collect();
         assert_eq!(slots, [2, 1, 2, 3, 2, 1, 2, 0, 3, 2, 1, 2, 3, 2, 1, 2]);
     });
@@ -144,7 +144,7 @@ fn check_5_weights_1_4_8_3() {
 #[test]
 fn check_6_terms_taken() {
     on_both(|calls| {
-        calls.fill(&[9], 3, 1_024);
+        calls.fill(&[9], 3, 1_014);
         let terms: Vec<u32> = (0..3).map(|_| calls.next().unwrap().terms).collect();
         assert_eq!(terms, [1, 2, 2]);
     });
@@ -175,8 +175,8 @@ fn check_8_weights() {
 fn check_9_lengths() {
     on_both(|calls| {
         calls.fill(&[1], 0, 0);
-        assert_eq!(calls.put(0, 1, 1_024, 7), Ok(Added { serial: 0, waiting: 1 }));
-        assert_eq!(calls.put(0, 1, 1_025, 7), Err(Refusal::BadLength));
+        assert_eq!(calls.put(0, 1, 1_014, 7), Ok(Added { serial: 0, waiting: 1 }));
+        assert_eq!(calls.put(0, 1, 1_015, 7), Err(Refusal::BadLength));
         assert_eq!(calls.put(0, 1, 0, 7), Err(Refusal::BadLength));
     });
 }
@@ -251,7 +251,7 @@ fn the_order_falls_with_slots_still_to_visit() {
     for (weight, records) in [(5, 3), (2, 5), (1, 5)] {
         let opened = scheduler.open(weight).unwrap();
         for reference in 0..records {
-            scheduler.put(opened.slot, 1, 1_024, reference).unwrap();
+            scheduler.put(opened.slot, 1, 1_014, reference).unwrap();
         }
     }
     let first: Vec<u32> = (0..3).map(|_| scheduler.next().unwrap().slot).collect();

@@ -4,6 +4,7 @@
 use host::pictures::runs::{plain, smoothed, Load, Sending};
 use host::pictures::share::farthest;
 use host::pictures::{all, order, share, COMMAND, FOLDER};
+use host::scheduler::cost_of;
 
 /// The sends of the exported calls, without their scans.
 fn spread(load: Load, sends: usize) -> Vec<Sending> {
@@ -33,14 +34,14 @@ fn the_order_is_that_of_check_5() {
 
 #[test]
 fn the_longest_wait_is_between_two_of_its_own() {
-    let sendings = [0, 1, 1, 0, 1, 0, 1].map(|slot| Sending { slot, length: 1 });
+    let sendings = [0, 1, 1, 0, 1, 0, 1].map(|slot| Sending { slot, cost: 1 });
     assert_eq!([0, 1, 2].map(|slot| order::longest_wait(slot, &sendings)), [2, 1, 0]);
 }
 
 /// Of two equal channels, one is ahead by 50 bytes and the other behind by as much: the first is named. With 3 shares of 4 it ends 50 behind.
 #[test]
 fn the_largest_distance_is_from_the_share() {
-    let sendings = [(0, 100), (1, 100)].map(|(slot, length)| Sending { slot, length });
+    let sendings = [(0, 100), (1, 100)].map(|(slot, cost)| Sending { slot, cost });
     let found = farthest(&[1, 1], &sendings);
     assert_eq!((found.slot, found.point, found.distance), (0, (100, 100), 100));
     let found = farthest(&[3, 1], &sendings);
@@ -68,7 +69,7 @@ fn what_smoothed_buys() {
         assert!(if weight == 1 { wait == plain_wait } else { 2 * wait < plain_wait }, "slot {slot}: {wait}, {plain_wait}");
     }
     // Distances are times the sum of the weights.
-    let record = u64::from(share::LOAD.length) * share::LOAD.round() as u64;
+    let record = cost_of(u64::from(share::LOAD.length)) * share::LOAD.round() as u64;
     let [near, far] = [spread(share::LOAD, 26), plain(share::LOAD, 26)].map(|sendings| farthest(share::LOAD.weights, &sendings).distance);
     assert!(near < record && far > 3 * record, "{near}, {far}, {record}");
 }

@@ -2,7 +2,7 @@
 
 use host::plain::{Plain, Sent};
 use host::random::Random;
-use host::scheduler::{Scheduler, GRANT, LONGEST, MOST_WAITING};
+use host::scheduler::{cost_of, Scheduler, GRANT, LONGEST, MOST_WAITING};
 
 /// Channels of these weights, each with records of these lengths.
 fn filled(weights: &[u64], lengths: &[u64]) -> Plain {
@@ -21,20 +21,20 @@ fn slots(plain: &mut Plain, sends: usize) -> Vec<usize> {
 /// Document 000, section 1: "a continuous period of time in proportion to the weight of the flow".
 #[test]
 fn a_quantum_by_weight_in_one_go() {
-    let mut plain = filled(&[1, 4, 8, 3], &[1_024; 16]);
+    let mut plain = filled(&[1, 4, 8, 3], &[1_014; 16]);
     let round = [0, 1, 1, 1, 1, 2, 2, 2, 2, 2, 2, 2, 2, 3, 3, 3];
     assert_eq!(slots(&mut plain, 16), round);
     assert_eq!(slots(&mut plain, 16), round);
 }
 
-/// What a visit leaves is added to the next quantum: 1,024 - 600 = 424, and 424 + 1,024 is enough for two records of 600.
+/// What a visit leaves is added to the next quantum: 1,024 - 610 = 414, and 414 + 1,024 is enough for two records of 600.
 #[test]
 fn the_rest_is_kept_while_records_wait() {
     let mut plain = filled(&[1, 1], &[600, 600, 600, 600]);
     assert_eq!(plain.next(), Some(Sent { slot: 0, length: 600, started: true }));
-    assert_eq!(plain.channels[0].deficit, 424);
+    assert_eq!(plain.channels[0].deficit, 414);
     assert_eq!(slots(&mut plain, 6), [1, 0, 0, 1, 1, 0]);
-    assert_eq!(plain.channels[1].deficit, 248);
+    assert_eq!(plain.channels[1].deficit, 218);
 }
 
 #[test]
@@ -50,9 +50,9 @@ fn an_emptied_channel_leaves_without_its_rest_and_joins_at_the_end() {
     assert_eq!(plain, filled(&[2, 1, 1], &[]));
 }
 
-/// Over any number of visits a channel that always has records sends its quanta less the rest, and the rest is below the longest record.
+/// Over any number of visits the records of a channel that always has some cost its quanta less the rest, and the rest is below the longest one's cost.
 #[test]
-fn bytes_by_quantum_for_any_lengths() {
+fn costs_by_quantum_for_any_lengths() {
     let mut random = Random::new(51);
     let weights = [5, 1, 3];
     let mut plain = filled(&weights, &[]);
@@ -60,15 +60,15 @@ fn bytes_by_quantum_for_any_lengths() {
     for slot in 0..weights.len() {
         (0..MOST_WAITING).for_each(|_| plain.put(slot, length()));
     }
-    let (mut visits, mut bytes) = ([0; 3], [0; 3]);
+    let (mut visits, mut costs) = ([0; 3], [0; 3]);
     for _ in 0..20_000 {
         let sent = plain.next().unwrap();
         visits[sent.slot] += u64::from(sent.started);
-        bytes[sent.slot] += sent.length;
+        costs[sent.slot] += cost_of(sent.length);
         plain.put(sent.slot, length());
         let rest = plain.channels[sent.slot].deficit;
-        assert_eq!(bytes[sent.slot] + rest, visits[sent.slot] * weights[sent.slot] * GRANT);
-        assert!(plain.visit || rest < LONGEST);
+        assert_eq!(costs[sent.slot] + rest, visits[sent.slot] * weights[sent.slot] * GRANT);
+        assert!(plain.visit || rest < cost_of(LONGEST));
         // A round visits each channel once.
         assert!(visits[0] - visits[2] <= 1 && visits[0] >= visits[1] && visits[1] >= visits[2]);
     }

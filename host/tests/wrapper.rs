@@ -26,7 +26,7 @@ fn check_5() {
     for weight in [1, 4, 8, 3] {
         let opened = memory.open(weight).unwrap();
         for reference in 0..16 {
-            memory.put(opened.slot, opened.ticket, 1_024, reference).unwrap();
+            memory.put(opened.slot, opened.ticket, 1_014, reference).unwrap();
         }
     }
     let slots: Vec<u32> = (0..16).map(|_| memory.next().unwrap().slot).collect();
@@ -35,7 +35,7 @@ fn check_5() {
 
 #[test]
 fn checks_6_to_10_and_12() {
-    for (length, terms, starts) in [(1_024, [1, 2, 2], [true; 3]), (300, [1, 0, 0], [true, false, false])] {
+    for (length, terms, starts) in [(1_014, [1, 2, 2], [true; 3]), (300, [1, 0, 0], [true, false, false])] {
         let mut memory = Memory::new();
         memory.open(9).unwrap();
         for reference in 0..3 {
@@ -50,11 +50,11 @@ fn checks_6_to_10_and_12() {
     assert_eq!(memory.open(4_095), Ok(Opened { slot: 0, ticket: 1 }));
     assert_eq!(memory.open(4_096), Err(Refusal::BadWeight));
     assert_eq!(memory.open(0), Err(Refusal::BadWeight));
-    assert_eq!(memory.put(0, 1, 1_025, 7), Err(Refusal::BadLength));
+    assert_eq!(memory.put(0, 1, 1_015, 7), Err(Refusal::BadLength));
     for waiting in 1..=16 {
-        assert_eq!(memory.put(0, 1, 1_024, 7), Ok(Added { serial: waiting - 1, waiting }));
+        assert_eq!(memory.put(0, 1, 1_014, 7), Ok(Added { serial: waiting - 1, waiting }));
     }
-    assert_eq!(memory.put(0, 1, 1_024, 7), Err(Refusal::Full));
+    assert_eq!(memory.put(0, 1, 1_014, 7), Err(Refusal::Full));
     for slot in 1..64 {
         assert_eq!(memory.open(1), Ok(Opened { slot, ticket: 1 }));
     }
@@ -67,12 +67,12 @@ fn a_channel_drains() {
     assert_eq!(memory.next(), Err(Refusal::NoneWaits));
     memory.open(5).unwrap();
     memory.put(0, 1, 600, 77).unwrap();
-    memory.put(0, 1, 424, 78).unwrap();
+    memory.put(0, 1, 404, 78).unwrap();
     assert_eq!(memory.close(0, 1), Ok(Closed::Draining));
     assert_eq!(memory.close(0, 1), Err(Refusal::AtClosing));
     assert_eq!(memory.next(), Ok(Sent { slot: 0, ticket: 1, length: 600, reference: 77, serial: 0, started: true, terms: 1 }));
-    assert_eq!(memory.ask(0, 1), Ok(Told { standing: Standing::Closing, weight: 5, deficit: 424, waiting: 1 }));
-    assert_eq!(memory.next(), Ok(Sent { slot: 0, ticket: 1, length: 424, reference: 78, serial: 1, started: false, terms: 0 }));
+    assert_eq!(memory.ask(0, 1), Ok(Told { standing: Standing::Closing, weight: 5, deficit: 414, waiting: 1 }));
+    assert_eq!(memory.next(), Ok(Sent { slot: 0, ticket: 1, length: 404, reference: 78, serial: 1, started: false, terms: 0 }));
     assert_eq!(memory.ask(0, 1), Err(Refusal::NotPresent));
     assert_eq!(memory.open(6), Ok(Opened { slot: 0, ticket: 2 }));
     assert_eq!(memory.close(0, 1), Err(Refusal::NotPresent));

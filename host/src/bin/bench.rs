@@ -24,7 +24,7 @@ use host::layout;
 use host::linked::{Entries, LINKED};
 use host::model::answer_fields;
 use host::pictures::speed::NAMES;
-use host::scheduler::Scheduler;
+use host::scheduler::{Scheduler, LONGEST};
 
 const BATCHES: usize = 301;
 /// Repetitions in a batch.
@@ -71,7 +71,7 @@ fn filled(channels: u32, records: u32) -> Scheduler {
     for channel in 0..channels {
         let opened = scheduler.open(1 + channel * 61 % 4_095).expect("a slot is free");
         for record in 0..records {
-            let length = 1 + (channel * 389 + record * 241) % 1_024;
+            let length = 1 + (channel * 389 + record * 241) % LONGEST as u32;
             scheduler.put(opened.slot, opened.ticket, length, record).expect("there is room");
         }
     }

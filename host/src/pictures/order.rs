@@ -4,8 +4,8 @@ use super::runs::{plain, smoothed, Load, Scan, Sending};
 use super::svg::{grouped, listed, solid, Pair, Picture, CHANNELS, GREY, HEAD, LEFT, MIDDLE, PALE, RIGHT, WHITE};
 use crate::scheduler::GRANT;
 
-/// Document 01, check 5: "Weights 1, 4, 8, 3 in slots 0 to 3, joined so, 16 records of 1,024 each".
-pub const LOAD: Load = Load { weights: &[1, 4, 8, 3], records: 16, length: 1_024 };
+/// Document 01, check 5: "Weights 1, 4, 8, 3 in slots 0 to 3, joined so", 16 records of 1,014 each (document 02, §1).
+pub const LOAD: Load = Load { weights: &[1, 4, 8, 3], records: 16, length: 1_014 };
 
 /// Where the first send begins, how wide a send is, how high a row is.
 const EDGE: f64 = 236.0;

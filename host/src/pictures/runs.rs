@@ -4,6 +4,7 @@ use uplink::{term, Memory};
 
 use crate::layout;
 use crate::plain::Plain;
+use crate::scheduler::cost_of;
 
 /// Channels of these weights in slots 0, 1, ..., each with so many records of one length before the first send.
 #[derive(Clone, Copy)]
@@ -13,11 +14,11 @@ pub struct Load {
     pub length: u32,
 }
 
-/// One send: the channel and how many bytes.
+/// One send: the channel and the bytes that it takes on the link, which is what the record costs.
 #[derive(Clone, Copy, Debug, PartialEq, Eq)]
 pub struct Sending {
     pub slot: usize,
-    pub length: u64,
+    pub cost: u64,
 }
 
 /// The scan that a send belongs to: the position of the term last taken, that term, and the column that it points to.
@@ -55,7 +56,7 @@ fn sent(memory: &mut Memory) -> (Sending, Scan) {
     let (order, last) = (before.order as u32, (1 << before.order) - 1);
     let position = (0..sent.terms).fold(before.scan.position as u32, |position, _| position % last + 1);
     let term = term(order, position).expect("a visit has a term");
-    (Sending { slot: sent.slot as usize, length: u64::from(sent.length) }, Scan { position, term, column: order - term })
+    (Sending { slot: sent.slot as usize, cost: cost_of(u64::from(sent.length)) }, Scan { position, term, column: order - term })
 }
 
 /// So many sends of plain deficit round robin.
@@ -68,5 +69,5 @@ pub fn plain(load: Load, sends: usize) -> Vec<Sending> {
         }
     }
     let mut next = || plain.next().expect("a record waits");
-    (0..sends).map(|_| next()).map(|sent| Sending { slot: sent.slot, length: sent.length }).collect()
+    (0..sends).map(|_| next()).map(|sent| Sending { slot: sent.slot, cost: cost_of(sent.length) }).collect()
 }

@@ -1,15 +1,17 @@
-//! docs/share.svg: the bytes that each channel has sent against its ideal line, smoothed beside plain (document 000, figure 1, draws such curves).
+//! docs/share.svg: the bytes that each channel has sent, its records' framing included, against its ideal line, smoothed beside plain (document 000,
+//! figure 1, draws such curves).
 
 use super::runs::{plain, smoothed, Load, Sending};
 use super::svg::{dashed, grouped, listed, solid, Pair, Picture, Stroke, BLACK, CHANNELS, GREY, HEAD, LEFT, MIDDLE, PALE, RIGHT};
+use crate::scheduler::{cost_of, GRANT};
 
 /// Two rounds of these weights take no more records than may wait, so no channel runs empty.
-pub const LOAD: Load = Load { weights: &[7, 4, 2], records: 16, length: 1_024 };
+pub const LOAD: Load = Load { weights: &[7, 4, 2], records: 16, length: 1_014 };
 const ROUNDS: usize = 2;
 
-/// The plots: their size, the unit of their axes, the bytes at their upper end, and where that stands.
+/// The plots: their size, the unit of their axes (what a visit grants), the bytes at their upper end, and where that stands.
 const SIZE: Pair = (320.0, 300.0);
-const UNIT: u64 = 1_024;
+const UNIT: u64 = GRANT;
 const MOST: u64 = 16 * UNIT;
 const TOP: f64 = 140.0;
 
@@ -27,15 +29,17 @@ pub struct Farthest {
 
 /// The file: two plots with the same axes.
 pub fn picture() -> String {
-    let title = format!("Bytes sent against the ideal share: weights {}", listed(LOAD.weights));
+    let title = format!("Bytes sent, framing included, against the ideal share: weights {}", listed(LOAD.weights));
     let shows = "Two plots of the bytes sent by each channel over those sent by all, with a straight ideal line for each. Smoothed, the curves stay close to \
                  the lines. Plain, they leave them by several records and meet them at the end of a round.";
     let mut picture = Picture::new(&title, shows, 530.0);
+    let length = u64::from(LOAD.length);
     let subtitle = format!(
-        "{ROUNDS} rounds of {} sends. At the start {} records of {} bytes wait on each channel, so that none runs empty.",
+        "{ROUNDS} rounds of {} sends. At the start {} records of {} bytes, {} with framing, wait on each channel, so that none runs empty.",
         LOAD.round(),
         LOAD.records,
-        grouped(u64::from(LOAD.length))
+        grouped(length),
+        grouped(cost_of(length))
     );
     picture.words(LEFT, (20.0, 50.0), &subtitle);
     let sends = ROUNDS * LOAD.round();
@@ -51,8 +55,8 @@ pub fn curve(slot: usize, sendings: &[Sending]) -> Vec<Point> {
     let mut points = vec![(0, 0)];
     let (mut all, mut own) = (0, 0);
     for sending in sendings {
-        all += sending.length;
-        own += if sending.slot == slot { sending.length } else { 0 };
+        all += sending.cost;
+        own += if sending.slot == slot { sending.cost } else { 0 };
         points.push((all, own));
     }
     points
@@ -81,7 +85,7 @@ fn ideal(slot: usize, all: u64) -> f64 {
 
 /// One plot with its axes, lines and largest distance.
 fn panel(picture: &mut Picture, left: f64, head: &str, sendings: &[Sending]) {
-    let end = sendings.iter().map(|sending| sending.length).sum::<u64>();
+    let end = sendings.iter().map(|sending| sending.cost).sum::<u64>();
     let place = |all: u64, own: f64| (left + SIZE.0 * all as f64 / end as f64, TOP + SIZE.1 * (1.0 - own / MOST as f64));
     picture.words(HEAD, (left, 82.0), head);
     let farthest = farthest(LOAD.weights, sendings);
@@ -100,7 +104,7 @@ fn panel(picture: &mut Picture, left: f64, head: &str, sendings: &[Sending]) {
     picture.line(solid(BLACK, 4.0), &[place(all, own as f64), place(all, ideal(farthest.slot, all))]);
 }
 
-/// Axes in units of 1,024 bytes, with the end of the first round.
+/// Axes in units of a grant, with the end of the first round.
 fn axes(picture: &mut Picture, end: u64, place: impl Fn(u64, f64) -> Pair) {
     for own in (0..=MOST).step_by(2 * UNIT as usize) {
         let (x, y) = place(0, own as f64);

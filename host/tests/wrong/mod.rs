@@ -4,7 +4,7 @@ use host::answers::{Opened, Refusal, Sent};
 use host::engine::Engine;
 use host::layout;
 use host::model::{answer_bytes, apart, on, Model};
-use host::scheduler::{Kind, Scheduler, LAST_TICKET};
+use host::scheduler::{Kind, Scheduler, FRAMING, LAST_TICKET, LONGEST};
 use host::spread;
 
 #[derive(Clone, Copy, Debug, PartialEq, Eq)]
@@ -15,6 +15,11 @@ pub enum Slip {
     DeficitKept,
     VisitDecidedLate,
     PositionOne,
+    // What a record costs (document 02, §1).
+    LengthCompared,
+    LengthTaken,
+    FramingOnTheVisit,
+    OneByteLonger,
     // Other slips in the rules.
     LessForAtMost,
     SlotOrder,
@@ -32,17 +37,23 @@ pub enum Slip {
     WrongAnswerWritten,
     NothingUnchecked,
     VisitLimit,
+    LongerChecked,
+    LengthChecked,
     TermOneFurther,
     LeadNarrow,
 }
 
 impl Slip {
-    pub const ALL: [Slip; 22] = [
+    pub const ALL: [Slip; 28] = [
         Slip::SlotNotTicket,
         Slip::JoinsTheScan,
         Slip::DeficitKept,
         Slip::VisitDecidedLate,
         Slip::PositionOne,
+        Slip::LengthCompared,
+        Slip::LengthTaken,
+        Slip::FramingOnTheVisit,
+        Slip::OneByteLonger,
         Slip::LessForAtMost,
         Slip::SlotOrder,
         Slip::ColumnKept,
@@ -58,6 +69,8 @@ impl Slip {
         Slip::WrongAnswerWritten,
         Slip::NothingUnchecked,
         Slip::VisitLimit,
+        Slip::LongerChecked,
+        Slip::LengthChecked,
         Slip::TermOneFurther,
         Slip::LeadNarrow,
     ];
@@ -98,11 +111,36 @@ impl Wrong {
                 }
             }
         }
+        if answer.len() == length {
+            if let Some(passed) = self.passed(state) {
+                layout::write(&passed, state);
+            }
+        }
         let number = call(state, answer);
         if self.is(Slip::AnswerKeptOnRefusal) && number != 0 {
             answer.copy_from_slice(&before);
         }
         number
+    }
+
+    /// What the engine goes on with where a wrong check passes an unsound memory: one with a record a byte longer than the longest, or with an open visit
+    /// whose deficit pays for the bare length of its head.
+    fn passed(&self, state: &[u8]) -> Option<Scheduler> {
+        let mut scheduler = layout::from_bytes(state).filter(|scheduler| layout::to_bytes(scheduler) == state)?;
+        match self.0 {
+            Slip::LongerChecked => {
+                let records = scheduler.channels.iter_mut().flat_map(|channel| &mut channel.records);
+                records.filter(|record| record.length == LONGEST + 1).for_each(|record| record.length = LONGEST);
+            }
+            Slip::LengthChecked => {
+                let channel = &mut scheduler.channels[scheduler.scan.visit?];
+                let head = channel.records.front().filter(|head| head.length <= channel.deficit)?;
+                channel.deficit = channel.deficit.max(head.cost());
+            }
+            _ => return None,
+        }
+        // Any other fault is still found.
+        Some(scheduler).filter(Scheduler::sound)
     }
 
     fn open_call(&self, scheduler: &mut Scheduler, weight: u32) -> Result<Opened, Refusal> {
@@ -143,6 +181,10 @@ impl Wrong {
         let ticket = channel.ticket as u32;
         let serial = (channel.next_serial + 65_536 - channel.records.len() as u64) as u32 % 65_536;
         let record = scheduler.send(slot);
+        // The bare length is taken; on the visit, framing is taken once with its first record.
+        if self.is(Slip::LengthTaken) || self.is(Slip::FramingOnTheVisit) && !started {
+            scheduler.channels[slot].deficit += FRAMING;
+        }
         self.settle(scheduler, slot);
         Ok(Sent { slot: slot as u32, ticket, length: record.length as u32, reference: record.reference as u32, serial, started, terms })
     }
@@ -182,7 +224,10 @@ impl Wrong {
             Slip::DeficitKept if emptied && !closing => channel.deficit = deficit,
             Slip::ClosingKept if emptied && closing => *channel = host::scheduler::Channel { kind: Kind::Open, deficit: 0, ..kept },
             Slip::VisitDecidedLate if !emptied => scheduler.scan.visit = Some(slot),
-            Slip::LessForAtMost if !emptied && channel.records[0].length == deficit => scheduler.scan.visit = None,
+            Slip::LessForAtMost if !emptied && channel.records[0].cost() == deficit => scheduler.scan.visit = None,
+            Slip::LengthCompared | Slip::FramingOnTheVisit if !emptied => {
+                scheduler.scan.visit = (channel.records[0].length <= deficit).then_some(slot);
+            }
             Slip::PositionOne if scheduler.order > 0 && scheduler.order < order && position > 0 => {
                 scheduler.scan.position = scheduler.scan.position.max(1);
             }
@@ -205,17 +250,21 @@ impl Engine for Wrong {
             on(state, answer, 8, |scheduler| {
                 let ticket = self.ticket(scheduler, slot, ticket);
                 let before = scheduler.clone();
-                let result = scheduler.put_sound(slot, ticket, length, reference);
+                let longer = self.is(Slip::OneByteLonger) && u64::from(length) == LONGEST + 1;
+                let result = scheduler.put_sound(slot, ticket, if longer { length - 1 } else { length }, reference);
                 match result {
                     Err(Refusal::BadLength) if self.is(Slip::FiveBeforeFour) && before.channels[slot as usize].records.len() == 16 => {
                         return Err(Refusal::Full);
                     }
-                    Err(Refusal::AtClosing) if self.is(Slip::FourBeforeThree) && !(1..=1_024).contains(&length) => {
+                    Err(Refusal::AtClosing) if self.is(Slip::FourBeforeThree) && !(1..=LONGEST).contains(&u64::from(length)) => {
                         return Err(Refusal::BadLength);
                     }
                     _ => {}
                 }
                 let added = result?;
+                if let (true, Some(last)) = (longer, scheduler.channels[slot as usize].records.back_mut()) {
+                    last.length += 1;
+                }
                 self.put_slips(&before, scheduler, slot as usize, added.waiting);
                 Ok(added)
             })

@@ -52,7 +52,7 @@ impl Memory {
         accepted(number, Opened { slot: field(&answer, 0), ticket: field(&answer, 1) })
     }
 
-    /// Adds a record at the end of the channel's waiting ones.
+    /// Adds a record at the end of the channel's waiting ones. Its length does not count the 10 bytes of framing that it costs the channel beside.
     pub fn put(&mut self, slot: u32, ticket: u32, length: u32, reference: u32) -> Result<Added, Refusal> {
         let mut answer = [0; 8];
         let state = self.0.as_mut_ptr();

@@ -12,7 +12,7 @@ pub enum Refusal {
     NotPresent = 2,
     /// Channel is closing.
     AtClosing = 3,
-    /// Length 0 or above 1,024.
+    /// Length 0 or above 1,014.
     BadLength = 4,
     /// 16 records wait already.
     Full = 5,
