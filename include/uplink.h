@@ -10,7 +10,7 @@
  * alignment is asked for. docs/ANSWERS.md has every byte.
  *
  * Work: a call reads the state about once; uplink_put and uplink_next then move up to 6,138 bytes of it by one place.
- * Every loop has a bound, whatever bytes are lent; no call allocates, blocks, recurses or keeps a pointer. Stack: 4,400
+ * Every loop has a bound, whatever bytes are lent; no call allocates, blocks, recurses or keeps a pointer. Stack: 512
  * bytes are enough for any call.
  *
  * Interrupts and threads: there is no static data, so calls on different states may interrupt each other or run at the
