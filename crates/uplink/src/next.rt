@@ -5,6 +5,8 @@ use memory::heads::Head;
 use memory::heads::load_head;
 use memory::heads::waiting_of;
 use memory::point::load_scan;
+use memory::records::first_of;
+use memory::records::load_record;
 use memory::rows::row_count;
 use rules::GRANTED;
 use rules::cost_of;
@@ -13,7 +15,6 @@ use std::num::wrapping_sub_u16;
 use visits::choose::Choice;
 use visits::choose::Chosen;
 use visits::choose::choose;
-use visits::settle::oldest;
 use visits::settle::settle;
 ghost use mathlib.Core.Path.{_≡_};
 ghost use mathlib.Core.Bool.{true};
@@ -53,19 +54,20 @@ fn next_in(state: &mut [u8]) -> NextAnswer
     send(state, chosen)
 }
 
-// "The head record is sent and its length taken from the deficit": its cost, by 02 §1.
+// "The head record is sent and its length taken from the deficit": its cost, by 02 §1. Its place is worked out once: no step of a send moves it.
 fn send(state: &mut [u8], chosen: Chosen) -> NextAnswer
     requires { ⌜ Chose (now state) chosen ⌝ }
     ensures { λ r. ⌜ leaving (nextTold r) (now (state .exit)) ≡ replied (now (state .entry)) (nextCall (stateOf (now (state .entry)))) ⌝ }
 {
     let slot = chosen.slot;
     let head = load_head(state, slot);
-    let first = oldest(state, slot);
+    let place = first_of(state, slot);
+    let first = load_record(state, place);
     let serial = head_serial(state, slot, head.serial);
     let cost = cost_of(first.length);
     let paid = paying(head, chosen.started, cost);
     let scan = chosen.scan;
-    settle(state, slot, paid, scan);
+    settle(state, slot, place, paid, scan);
     NextAnswer::Sent {
         slot: slot as u32,
         ticket: head.ticket,

@@ -9,8 +9,6 @@ use memory::layout::Position;
 use memory::point::Scan;
 use memory::point::store_order;
 use memory::point::store_scan;
-use memory::records::Cell;
-use memory::records::first_of;
 use memory::records::load_record;
 use memory::records::take_record;
 use memory::rows::leave_row;
@@ -28,37 +26,27 @@ ghost use Rattle.spread.specs.Limits.{columns};
 ghost use Rattle.rules.specs.Numbers.{slots};
 ghost use Rattle.rules.specs.State.{Record, Channel, Scan as ScanPoint, State, at, weights, orderOf, withChannel, withScan, visitNumber};
 ghost use Rattle.rules.specs.Next as rules;
-ghost use Rattle.memory.specs.Layout.{cells, bytesOf, memoryLength};
-ghost use Rattle.memory.specs.Reading.{firstAt, recordAt, rowCountAt, rowsAt, stateOf};
+ghost use Rattle.memory.specs.Layout.{bytesOf, memoryLength};
+ghost use Rattle.memory.specs.Reading.{firstAt, rowCountAt, rowsAt, stateOf};
 ghost use Rattle.memory.specs.Head.{headOf};
-ghost use Rattle.memory.specs.Records.{cellOf};
 ghost use Rattle.memory.specs.Edits.{rowGone};
 ghost use Rattle.memory.specs.Fits.{Fits};
 ghost use Rattle.memory.specs.Search.{RowsWithin};
 ghost use Rattle.memory.specs.Point.{inNumbers};
 ghost use Rattle.visits.specs.Settle.{Settles, Settling, orderAgain};
 
-// The oldest record of a slot.
-pub fn oldest(state: &[u8], slot: usize) -> Cell
-    requires { ⌜ (length (now state) ≡ memoryLength) × (slot < slots) × (firstAt (now state) slot < cells) ⌝ }
-    ensures { λ r. ⌜ r ≡ cellOf (recordAt (now (state .entry)) (firstAt (now (state .entry)) slot)) ⌝ }
-{
-    let place = first_of(state, slot);
-    load_record(state, place)
-}
-
-// The oldest record of the slot leaves, and the visit is settled by what still waits. The head has paid, the scan point has the visit open.
-pub fn settle(state: &mut [u8], slot: usize, head: Head, scan: Scan)
-    requires { ⌜ Settles (now state) slot head scan ⌝ }
+// The oldest record of the slot leaves its place, and the visit is settled by what still waits. The head has paid, the scan point has the visit open.
+pub fn settle(state: &mut [u8], slot: usize, place: usize, head: Head, scan: Scan)
+    requires { ⌜ Settles (now state) slot head scan × (place ≡ firstAt (now state) slot) ⌝ }
     ensures { λ _. ⌜ ((z : Settles (now (state .entry)) slot head scan) → now (state .exit) ≡ bytesOf (rules.settled (z .rest) (withScan (z .before) (z .point)) slot (z .channel))) ⌝ }
 {
     store_scan(state, scan);
-    take_record(state, slot);
+    take_record(state, slot, place);
     if waiting_of(state, slot) == 0 {
         row_left(state, slot, head, scan);
         return;
     }
-    row_stays(state, slot, head, scan);
+    row_stays(state, slot, place, head, scan);
 }
 
 // "If no record is left, the row leaves, its deficit is 0, the visit ends, a closing slot is freed, the order is worked out again and P becomes P mod 2^k."
@@ -128,13 +116,13 @@ fn position_left(position: Position, order: u32) -> Position
     position % turns(order)
 }
 
-// "Otherwise the visit stays open exactly if the new head's length is at most the deficit."
-fn row_stays(state: &mut [u8], slot: usize, head: Head, scan: Scan)
-    requires { ⌜ ((z : Settling (now state) slot head scan) × (0 < length (z .channel .waiting))) ⌝ }
+// "Otherwise the visit stays open exactly if the new head's length is at most the deficit." The new head has moved down to the old one's place.
+fn row_stays(state: &mut [u8], slot: usize, place: usize, head: Head, scan: Scan)
+    requires { ⌜ ((z : Settling (now state) slot head scan) × (0 < length (z .channel .waiting)) × (place ≡ firstAt (now state) slot)) ⌝ }
     ensures { λ _. ⌜ ((z : Settling (now (state .entry)) slot head scan) (h : Record) (rest : List Record) → z .channel .waiting ≡ h ∷ rest
         → now (state .exit) ≡ bytesOf (rules.rowStays (z .state) slot h (z .channel))) ⌝ }
 {
-    let next = oldest(state, slot);
+    let next = load_record(state, place);
     let cost = cost_of(next.length);
     let visit = visit_left(slot, cost, head.deficit);
     let left = Scan {
