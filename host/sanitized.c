@@ -15,6 +15,8 @@
 #include "uplink.h"
 
 enum { PAGE = 4096, SPACE = 2 * PAGE, PLACES = 3, WIDEST = 64, PAINT = 0xa5 };
+/* The state ahead of its records, which take six bytes each. */
+enum { HEADS = UPLINK_STATE_LENGTH - 6 * UPLINK_SLOTS * UPLINK_ROOM };
 enum kind { START, OPEN, PUT, CLOSE, NEXT, ASK, LEAD, TERM, KINDS };
 
 static const char *const names[KINDS] = {"start", "open", "put", "close", "next", "ask", "lead", "term"};
@@ -305,7 +307,7 @@ static void run_at_random(unsigned long calls)
         memcpy(before, kept, sizeof kept);
         /* One call in 64 meets a changed byte. */
         if (below(64) == 0)
-            before[below(4) ? below(896) : below(UPLINK_STATE_LENGTH)] ^= (uint8_t)(1 << below(8));
+            before[below(4) ? below(HEADS) : below(UPLINK_STATE_LENGTH)] ^= (uint8_t)(1 << below(8));
         everywhere(&c, before, &left);
         if (left.number == UPLINK_ACCEPTED) {
             accepted[c.kind]++;

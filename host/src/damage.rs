@@ -1,6 +1,6 @@
 //! Memories that break a rule of soundness, by name: each rule alone where that can be, and bytes that stand for nothing.
 
-use crate::layout;
+use crate::layout::{self, KIND, LENGTHS, NOTHING, PLACES, REFERENCES, ROWS, ROW_COUNT, VISIT, WAITING};
 use crate::random::Random;
 use crate::scheduler::{Kind, Record, Scheduler, FRAMING};
 use crate::sound::Rule;
@@ -178,7 +178,7 @@ fn of_the_scan() -> Vec<Breakage> {
 
 /// Memories with a single wrong byte: bytes that stand for nothing, and values that no state has.
 pub fn wrong_bytes() -> Vec<(&'static str, Vec<u8>)> {
-    let fresh = layout::to_bytes(&Scheduler::start());
+    let fresh = layout::fresh();
     let (rich, full) = (layout::to_bytes(&rich()), layout::to_bytes(&full()));
     let set = |bytes: &[u8], place: usize, value: u8| {
         let mut bytes = bytes.to_vec();
@@ -187,33 +187,34 @@ pub fn wrong_bytes() -> Vec<(&'static str, Vec<u8>)> {
         bytes
     };
     // Rich has 5 rows and 24 records.
+    let (run, last) = (24, PLACES - 1);
     vec![
-        ("a row after the rows", set(&rich, 5, 1)),
-        ("a row in the last place", set(&rich, 63, 63)),
-        ("kind 3", set(&rich, 64 + 40, 3)),
-        ("kind 255", set(&rich, 64 + 1, 255)),
-        ("a free slot is open", set(&fresh, 64 + 7, 1)),
-        ("one record more than there are", set(&rich, 128 + 63, 3)),
-        ("one record fewer than there are", set(&rich, 128 + 63, 1)),
-        ("255 records of one channel", set(&rich, 128 + 1, 255)),
-        ("more records than places", set(&full, 128 + 63, 17)),
-        ("more records than places, at the first slot", set(&full, 128, 255)),
-        ("one row fewer", set(&rich, 832, 4)),
-        ("one row more", set(&rich, 832, 6)),
-        ("65 rows", set(&full, 832, 65)),
-        ("255 rows", set(&fresh, 832, 255)),
-        ("visit 65", set(&rich, 845, 65)),
-        ("visit 255", set(&rich, 845, 255)),
-        ("the first byte after the scan point", set(&rich, 846, 1)),
-        ("the last byte of the scan point's line", set(&rich, 895, 128)),
-        ("a length after the run", set(&rich, 896 + 24, 1)),
-        ("a length after the run, high byte", set(&rich, 1_920 + 24, 1)),
-        ("a length in the last place", set(&rich, 896 + 1_023, 255)),
-        ("a length in the last place, high byte", set(&fresh, 1_920 + 1_023, 4)),
-        ("a reference after the run, byte 0", set(&rich, 2_944 + 24, 1)),
-        ("a reference after the run, byte 1", set(&rich, 3_968 + 24, 1)),
-        ("a reference after the run, byte 2", set(&rich, 4_992 + 24, 1)),
-        ("a reference after the run, byte 3", set(&rich, 6_016 + 24, 1)),
-        ("a reference in the last place", set(&fresh, 7_039, 128)),
+        ("a row after the rows", set(&rich, ROWS.at(5, 0), 1)),
+        ("a row in the last place", set(&rich, ROWS.at(63, 0), 63)),
+        ("kind 3", set(&rich, KIND.at(40, 0), 3)),
+        ("kind 255", set(&rich, KIND.at(1, 0), 255)),
+        ("a free slot is open", set(&fresh, KIND.at(7, 0), 1)),
+        ("one record more than there are", set(&rich, WAITING.at(63, 0), 3)),
+        ("one record fewer than there are", set(&rich, WAITING.at(63, 0), 1)),
+        ("255 records of one channel", set(&rich, WAITING.at(1, 0), 255)),
+        ("more records than places", set(&full, WAITING.at(63, 0), 17)),
+        ("more records than places, at the first slot", set(&full, WAITING.at(0, 0), 255)),
+        ("one row fewer", set(&rich, ROW_COUNT.start, 4)),
+        ("one row more", set(&rich, ROW_COUNT.start, 6)),
+        ("65 rows", set(&full, ROW_COUNT.start, 65)),
+        ("255 rows", set(&fresh, ROW_COUNT.start, 255)),
+        ("visit 65", set(&rich, VISIT.start, 65)),
+        ("visit 255", set(&rich, VISIT.start, 255)),
+        ("the first byte after the scan point", set(&rich, NOTHING.start, 1)),
+        ("the last byte of the scan point's line", set(&rich, NOTHING.end() - 1, 128)),
+        ("a length after the run", set(&rich, LENGTHS.at(run, 0), 1)),
+        ("a length after the run, high byte", set(&rich, LENGTHS.at(run, 1), 1)),
+        ("a length in the last place", set(&rich, LENGTHS.at(last, 0), 255)),
+        ("a length in the last place, high byte", set(&fresh, LENGTHS.at(last, 1), 4)),
+        ("a reference after the run, byte 0", set(&rich, REFERENCES.at(run, 0), 1)),
+        ("a reference after the run, byte 1", set(&rich, REFERENCES.at(run, 1), 1)),
+        ("a reference after the run, byte 2", set(&rich, REFERENCES.at(run, 2), 1)),
+        ("a reference after the run, byte 3", set(&rich, REFERENCES.at(run, 3), 1)),
+        ("a reference in the last place", set(&fresh, REFERENCES.at(last, 3), 128)),
     ]
 }

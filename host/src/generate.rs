@@ -275,11 +275,11 @@ impl Builder {
             damaged = layout::to_bytes(&beyond_a_limit(&mut self.random, &self.now));
         } else {
             let place = match self.random.below(4) {
-                0 => self.random.below(896),
-                1 => self.random.from_to(832, 845),
-                2 => self.random.from_to(846, 895),
-                _ => self.random.below(layout::LENGTH as u64),
-            } as usize;
+                0 => self.place_in(0..layout::LENGTHS.start),
+                1 => self.place_in(layout::ROW_COUNT.start..layout::NOTHING.start),
+                2 => self.place_in(layout::NOTHING.places()),
+                _ => self.place_in(0..layout::LENGTH),
+            };
             damaged[place] ^= if self.random.chance(1, 2) { 1 << self.random.below(8) } else { self.random.from_to(1, 255) as u8 };
         }
         let changed = (0..layout::LENGTH).filter(|&place| damaged[place] != bytes[place]);
@@ -299,6 +299,10 @@ impl Builder {
         }
     }
 
+    fn place_in(&mut self, places: std::ops::Range<usize>) -> usize {
+        places.start + self.random.below(places.len() as u64) as usize
+    }
+
     fn mislent(&mut self) {
         let call = match self.random.below(8) {
             0 => Call::Start,
@@ -306,7 +310,8 @@ impl Builder {
             _ => self.any_call(),
         };
         let right = call.answer_length();
-        let state_lengths = [layout::LENGTH, 0, 1, 64, 7_039, 7_041, 7_104, 14_080];
+        let whole = layout::LENGTH;
+        let state_lengths = [whole, 0, 1, 64, whole - 1, whole + 1, whole + 64, 2 * whole];
         let answer_lengths = [right, 0, 1, right.saturating_sub(1), right + 1, right + 4, 2 * right, 64];
         // One of the two is often right, and never both.
         let (mut state_length, mut answer_length) = (self.random.pick(&state_lengths), self.random.pick(&answer_lengths));

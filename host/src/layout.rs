@@ -4,10 +4,6 @@
 
 use crate::scheduler::{Channel, Kind, Record, Scan, Scheduler, SLOTS};
 
-pub const LENGTH: usize = 7_040;
-/// Places for records, of all channels together.
-pub const PLACES: usize = 1_024;
-
 /// "byte j of lane i of a field" stands at start + lanes * j + i.
 pub struct Field {
     pub name: &'static str,
@@ -17,26 +13,30 @@ pub struct Field {
     pub width: usize,
 }
 
-const fn field(name: &'static str, start: usize, lanes: usize, width: usize) -> Field {
-    Field { name, start, lanes, width }
-}
+/// A slot's fields and the rows take whole lines.
+const LINE: usize = SLOTS;
 
-const ROWS: Field = field("rows", 0, 64, 1);
-const KIND: Field = field("kind", 64, 64, 1);
-const WAITING: Field = field("waiting", 128, 64, 1);
-const TICKET: Field = field("ticket", 192, 64, 4);
-const WEIGHT: Field = field("weight", 448, 64, 2);
-const DEFICIT: Field = field("deficit", 576, 64, 2);
-const NEXT_SERIAL: Field = field("next serial", 704, 64, 2);
-const ROW_COUNT: Field = field("number of rows", 832, 1, 1);
-const ORDER: Field = field("order", 833, 1, 1);
-const POSITION: Field = field("position", 834, 1, 2);
-const COLUMN: Field = field("column", 836, 1, 1);
-const TO_VISIT: Field = field("slots to visit", 837, 1, 8);
-const VISIT: Field = field("visit", 845, 1, 1);
-const NOTHING: Field = field("nothing", 846, 50, 1);
-const LENGTHS: Field = field("length", 896, 1_024, 2);
-const REFERENCES: Field = field("reference", 2_944, 1_024, 4);
+pub const ROWS: Field = Field { name: "rows", start: 0, lanes: SLOTS, width: 1 };
+pub const KIND: Field = ROWS.then("kind", SLOTS, 1);
+pub const WAITING: Field = KIND.then("waiting", SLOTS, 1);
+pub const TICKET: Field = WAITING.then("ticket", SLOTS, 4);
+pub const WEIGHT: Field = TICKET.then("weight", SLOTS, 2);
+pub const DEFICIT: Field = WEIGHT.then("deficit", SLOTS, 2);
+pub const NEXT_SERIAL: Field = DEFICIT.then("next serial", SLOTS, 2);
+pub const ROW_COUNT: Field = NEXT_SERIAL.then("number of rows", 1, 1);
+pub const ORDER: Field = ROW_COUNT.then("order", 1, 1);
+pub const POSITION: Field = ORDER.then("position", 1, 2);
+pub const COLUMN: Field = POSITION.then("column", 1, 1);
+pub const TO_VISIT: Field = COLUMN.then("slots to visit", 1, 8);
+pub const VISIT: Field = TO_VISIT.then("visit", 1, 1);
+/// What is left of the scan point's line.
+pub const NOTHING: Field = VISIT.then("nothing", LINE - VISIT.end() % LINE, 1);
+pub const LENGTHS: Field = NOTHING.then("length", PLACES, 2);
+pub const REFERENCES: Field = LENGTHS.then("reference", PLACES, 4);
+
+/// Places for records, of all channels together.
+pub const PLACES: usize = 1_024;
+pub const LENGTH: usize = REFERENCES.end();
 
 /// Every field, in the order of their places: together they are the whole memory.
 pub const FIELDS: [&Field; 16] = [
@@ -59,16 +59,36 @@ pub const FIELDS: [&Field; 16] = [
 ];
 
 impl Field {
+    /// The field that stands behind this one.
+    const fn then(&self, name: &'static str, lanes: usize, width: usize) -> Field {
+        Field { name, start: self.end(), lanes, width }
+    }
+
     /// How many bytes of the memory it takes.
     pub const fn length(&self) -> usize {
         self.lanes * self.width
+    }
+
+    /// The first place behind it.
+    pub const fn end(&self) -> usize {
+        self.start + self.length()
+    }
+
+    /// Where a byte of a lane stands.
+    pub const fn at(&self, lane: usize, byte: usize) -> usize {
+        self.start + self.lanes * byte + lane
+    }
+
+    /// All its places.
+    pub const fn places(&self) -> std::ops::Range<usize> {
+        self.start..self.end()
     }
 
     /// Writes the number's lowest bytes; a lane that the field does not have is left out.
     fn write(&self, bytes: &mut [u8], lane: usize, number: u64) {
         if lane < self.lanes {
             for j in 0..self.width {
-                bytes[self.start + self.lanes * j + lane] = (number >> (8 * j)) as u8;
+                bytes[self.at(lane, j)] = (number >> (8 * j)) as u8;
             }
         }
     }
@@ -77,12 +97,17 @@ impl Field {
 /// What stands at a place of the memory, in words.
 pub fn name_of(place: usize) -> String {
     for field in FIELDS {
-        if place >= field.start && place < field.start + field.length() {
+        if field.places().contains(&place) {
             let (byte, lane) = ((place - field.start) / field.lanes, (place - field.start) % field.lanes);
             return format!("{}, lane {lane}, byte {byte}", field.name);
         }
     }
     "outside the memory".to_string()
+}
+
+/// The memory that Start leaves.
+pub fn fresh() -> Vec<u8> {
+    to_bytes(&Scheduler::start())
 }
 
 /// The memory of a state.
@@ -92,7 +117,7 @@ pub fn to_bytes(scheduler: &Scheduler) -> Vec<u8> {
     bytes
 }
 
-/// Writes the memory of a state over 7,040 bytes of any content.
+/// Writes the memory of a state over as many bytes of any content.
 pub fn write(scheduler: &Scheduler, bytes: &mut [u8]) {
     bytes.fill(0);
     let mut place = 0;

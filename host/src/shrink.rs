@@ -18,7 +18,7 @@ const SHORT: usize = 40;
 pub fn shrink<E: Engine + ?Sized>(engine: &mut E, history: History, difference: Difference) -> (History, Difference) {
     let mut search = Search { engine, left: STEPS, best: history, difference };
     search.best.steps.truncate(search.difference.step + 1);
-    search.keep_if_it_differs(History { memory: vec![0; layout::LENGTH], ..search.best.clone() });
+    search.keep_if_it_differs(History { memory: layout::fresh(), ..search.best.clone() });
     search.remove_steps();
     search.remove_channels();
     loop {

@@ -4,12 +4,12 @@ mod common;
 
 use host::compare::run_all;
 use host::history::{Call, History, Step};
-use host::layout::LENGTH;
+use host::layout::fresh;
 use host::random::Random;
 
 fn compare(shape: &'static str, calls: Vec<Call>) {
     let steps = calls.into_iter().map(Step::Call).collect();
-    let history = History { seed: 0, shape, memory: vec![0; LENGTH], steps };
+    let history = History { seed: 0, shape, memory: fresh(), steps };
     if let Err(report) = run_all(&mut common::engine(), [history]) {
         panic!("{report}");
     }

@@ -6,7 +6,7 @@ use host::check::record_by_record;
 use host::compare::run_all;
 use host::damage::{breakages, wrong_bytes};
 use host::history::{Call, History, Step};
-use host::layout::{is_sound_memory, to_bytes, LENGTH};
+use host::layout::{is_sound_memory, to_bytes, KIND, LENGTH, LENGTHS, ROW_COUNT, TICKET};
 use host::random::Random;
 use host::scheduler::Scheduler;
 use host::states;
@@ -87,7 +87,7 @@ fn each_byte_flipped() {
         let bytes = to_bytes(&scheduler);
         for place in 0..LENGTH {
             let mut flips = vec![1, 1 << random.below(8), 0xff];
-            if place < 896 {
+            if place < LENGTHS.start {
                 flips = (0..8).map(|bit| 1 << bit).chain([0xff]).collect();
             }
             for flip in flips {
@@ -108,8 +108,8 @@ fn damage_at_random() {
         let most = random.pick(&[2, 8, 64]);
         let mut memory = to_bytes(&states::any_sound(&mut random, most));
         for _ in 0..random.from_to(1, 4) {
-            let end = random.pick(&[64, 192, 832, 896, 7_040]);
-            let place = random.below(end) as usize;
+            let end = random.pick(&[KIND.start, TICKET.start, ROW_COUNT.start, LENGTHS.start, LENGTH]);
+            let place = random.below(end as u64) as usize;
             memory[place] = random.number() as u8;
         }
         compare([history("damage at random", seed, memory, &CALLS)]);

@@ -11,7 +11,7 @@ use std::path::Path;
 use host::answers::Refusal;
 use host::engine::Engine;
 use host::history::Call;
-use host::layout::LENGTH;
+use host::layout::fresh;
 use rattle::{functions, source, without_comments};
 
 type Numbers = BTreeMap<String, u64>;
@@ -145,7 +145,7 @@ fn limits() -> Numbers {
 
 /// The lengths, of those up to 64 bytes, of the answer buffers that the engine under test takes for a call.
 fn taken(call: Call) -> Vec<u64> {
-    let takes = |length: &usize| common::engine().call(&call, &mut [0; LENGTH], &mut vec![0; *length]) != Refusal::Unsound.number();
+    let takes = |length: &usize| common::engine().call(&call, &mut fresh(), &mut vec![0; *length]) != Refusal::Unsound.number();
     (0..=64).filter(takes).map(|length| length as u64).collect()
 }
 

@@ -1,14 +1,14 @@
 //! The lent memory: where each byte stands, writer against reader, and the two checks against each other.
 
 use host::check::record_by_record;
-use host::layout::{from_bytes, is_sound_memory, name_of, to_bytes, LENGTH};
+use host::layout::{fresh, from_bytes, is_sound_memory, name_of, to_bytes, LENGTH, LENGTHS, TICKET, TO_VISIT};
 use host::random::Random;
 use host::scheduler::Scheduler;
 use host::states;
 
 #[test]
 fn the_fresh_state_is_all_zeros() {
-    assert_eq!(to_bytes(&Scheduler::start()), vec![0; LENGTH]);
+    assert_eq!(fresh(), vec![0; LENGTH]);
     assert!(is_sound_memory(&[0; LENGTH]));
     assert!(!is_sound_memory(&[0; LENGTH - 1]));
     assert!(!is_sound_memory(&[0; LENGTH + 1]));
@@ -60,7 +60,7 @@ fn slots_to_visit_are_bits_of_one_number() {
     let mut scheduler = Scheduler::start();
     scheduler.scan.to_visit = [0, 9, 63].into();
     let bytes = to_bytes(&scheduler);
-    assert_eq!(&bytes[837..845], [1, 2, 0, 0, 0, 0, 0, 128]);
+    assert_eq!(&bytes[TO_VISIT.places()], [1, 2, 0, 0, 0, 0, 0, 128]);
 }
 
 #[test]
@@ -94,8 +94,8 @@ fn damaged_memories_decode_or_not() {
         let most = random.pick(&[1, 4, 64]);
         let mut bytes = to_bytes(&states::any_sound(&mut random, most));
         for _ in 0..random.from_to(1, 3) {
-            let end = random.pick(&[192, 896, 896, 7_040]);
-            let place = random.below(end) as usize;
+            let end = random.pick(&[TICKET.start, LENGTHS.start, LENGTHS.start, LENGTH]);
+            let place = random.below(end as u64) as usize;
             bytes[place] = random.pick(&[0, 1, 2, 255, bytes[place] ^ 1, bytes[place].wrapping_add(1)]);
         }
         assert_eq!(record_by_record(&bytes), is_sound_memory(&bytes));

@@ -5,7 +5,7 @@ mod common;
 use host::compare::run_all;
 use host::damage::breakages;
 use host::history::{Call, History, Step};
-use host::layout::{to_bytes, LENGTH};
+use host::layout::{to_bytes, LENGTH, LENGTHS};
 use host::states;
 
 const CALLS: [Call; 12] = [
@@ -23,13 +23,14 @@ const CALLS: [Call; 12] = [
     Call::Term { order: 0, position: 4 },
 ];
 
-const STATE_LENGTHS: [usize; 14] = [0, 1, 28, 63, 64, 896, 3_520, 7_038, 7_039, 7_040, 7_041, 7_104, 8_192, 14_080];
+const STATE_LENGTHS: [usize; 14] =
+    [0, 1, 28, 63, 64, LENGTHS.start, LENGTH / 2, LENGTH - 2, LENGTH - 1, LENGTH, LENGTH + 1, LENGTH + 64, 8_192, 2 * LENGTH];
 
 fn compare(memory: Vec<u8>) -> u64 {
     let mut steps = Vec::new();
     for call in CALLS {
         for state_length in STATE_LENGTHS {
-            for answer_length in (0..=64).chain([7_040]) {
+            for answer_length in (0..=64).chain([LENGTH]) {
                 let mislent = Step::Mislent { call, state_length, answer_length };
                 let start_accepted = call == Call::Start && state_length == LENGTH;
                 let accepted = state_length == LENGTH && answer_length == call.answer_length();

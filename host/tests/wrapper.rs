@@ -3,7 +3,7 @@
 
 use std::error::Error;
 
-use host::layout::{is_sound_memory, to_bytes, LENGTH};
+use host::layout::{fresh, is_sound_memory, to_bytes, LENGTH};
 use host::random::Random;
 use host::states;
 use uplink::{lead, term, Added, Closed, Memory, Opened, Refusal, Sent, Standing, Told};
@@ -85,7 +85,7 @@ fn a_channel_drains() {
 fn any_bytes_and_numbers() {
     let mut random = Random::new(41);
     for _ in 0..500 {
-        let mut bytes = [0; LENGTH];
+        let mut bytes: [u8; LENGTH] = fresh().try_into().unwrap();
         for _ in 0..random.below(20) {
             bytes[random.below(LENGTH as u64) as usize] = random.number() as u8;
         }
@@ -99,7 +99,7 @@ fn any_bytes_and_numbers() {
         let _ = memory.ask(number() % 65, number());
         let _ = (lead(number(), number(), number(), number()), term(number(), number()));
         memory.start();
-        assert_eq!(memory.bytes(), &[0; LENGTH]);
+        assert_eq!(memory.bytes()[..], fresh());
     }
 }
 
@@ -124,8 +124,8 @@ fn a_refusal_is_an_error_with_a_text_of_its_own() {
 
 #[test]
 fn a_memory_is_shown_in_a_few_words() {
-    let mut bytes = [0; LENGTH];
-    assert_eq!(format!("{:?}", Memory::from_bytes(bytes)), "Memory { length: 7040, sound: true, .. }");
+    let mut bytes: [u8; LENGTH] = fresh().try_into().unwrap();
+    assert_eq!(format!("{:?}", Memory::from_bytes(bytes)), format!("Memory {{ length: {LENGTH}, sound: true, .. }}"));
     bytes[LENGTH - 1] = 1;
-    assert_eq!(format!("{:?}", Memory::from_bytes(bytes)), "Memory { length: 7040, sound: false, .. }");
+    assert_eq!(format!("{:?}", Memory::from_bytes(bytes)), format!("Memory {{ length: {LENGTH}, sound: false, .. }}"));
 }
