@@ -131,13 +131,18 @@ fn count_lines(printed: &[u8]) -> u64 {
     printed.iter().filter(|&&byte| byte == b'\n').count() as u64
 }
 
+/// Runs of the program while a text is made shorter, so that a long one does not hold up the report.
+const RUNS: usize = 500;
+
 /// Removes runs of lines, long runs first, as long as the outputs differ.
 fn shortest(program: &Path, input: Vec<u8>) -> io::Result<Vec<u8>> {
+    let mut left = RUNS;
     let mut lines: Vec<Vec<u8>> = input.split_inclusive(|&byte| byte == b'\n').map(<[u8]>::to_vec).collect();
     let mut size = lines.len().div_ceil(2);
     while size > 0 {
         let mut at = 0;
-        while at < lines.len() {
+        while at < lines.len() && left > 0 {
+            left -= 1;
             let mut fewer = lines.clone();
             fewer.drain(at..(at + size).min(fewer.len()));
             let candidate = fewer.concat();
