@@ -116,7 +116,7 @@ fn position_left(position: Position, order: u32) -> Position
     position % turns(order)
 }
 
-// "Otherwise the visit stays open exactly if the new head's length is at most the deficit." The new head has moved down to the old one's place.
+// "Otherwise the visit stays open exactly if the new head's length is at most the deficit." (By 02 §1 its cost.) The new head has moved down to the old one's place.
 fn row_stays(state: &mut [u8], slot: usize, place: usize, head: Head, scan: Scan)
     requires { ⌜ ((z : Settling (now state) slot head scan) × (0 < length (z .channel .waiting)) × (place ≡ firstAt (now state) slot)) ⌝ }
     ensures { λ _. ⌜ ((z : Settling (now (state .entry)) slot head scan) (h : Record) (rest : List Record) → z .channel .waiting ≡ h ∷ rest
