@@ -8,6 +8,7 @@ use lib.IntN.{ℤ}
 use Rattle.answers.specs.Answer.{unsound, numberOf, Answer, refused, given, number}
 use Rattle.rules.specs.Calls.{Opened, Taken, Closed, Asked}
 use Rattle.rules.specs.Next.{Sent}
+use Rattle.rules.specs.Listed.{openedFields, takenFields, closedFields, sentFields, askedFields}
 use Rattle.memory.specs.Memory.{Left}
 use Rattle.uplink.specs.Told.{leaving}
 use Rattle.driver.specs.Words.{lowFirst, words, twos}
@@ -41,19 +42,19 @@ abbrev pub startBytes : Unit {0} → List ℕ
 startBytes a = []
 
 abbrev pub openBytes : Opened → List ℕ
-openBytes a = words (a .slot ∷ a .ticket ∷ [])
+openBytes a = words (openedFields a)
 
 abbrev pub putBytes : Taken → List ℕ
-putBytes a = words (a .serial ∷ a .waiting ∷ [])
+putBytes a = words (takenFields a)
 
 abbrev pub closeBytes : Closed → List ℕ
-closeBytes a = words (a .freed ∷ [])
+closeBytes a = words (closedFields a)
 
 abbrev pub nextBytes : Sent → List ℕ
-nextBytes a = words (a .slot ∷ a .ticket ∷ a .length ∷ a .reference ∷ a .serial ∷ a .started ∷ a .terms ∷ [])
+nextBytes a = words (sentFields a)
 
 abbrev pub askBytes : Asked → List ℕ
-askBytes a = words (a .kind ∷ a .weight ∷ a .deficit ∷ a .waiting ∷ [])
+askBytes a = words (askedFields a)
 
 abbrev pub termBytes : ℕ → List ℕ
 termBytes t = words (t ∷ [])

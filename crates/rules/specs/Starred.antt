@@ -8,10 +8,10 @@ use Rattle.rules.specs.State.{State, fresh}
 use Rattle.rules.specs.Next.{Sent, nextCall}
 use Rattle.rules.specs.Calls.{openCall, putCall, Call, toOpen, toPut, run}
 
--- n records of a length for a ticket of a slot
+-- so many records of a length for a ticket of a slot
 unfoldable pub fill : ℕ → ℕ → ℕ → ℕ → List Call
-fill i t size zero = []
-fill i t size (suc n) = toPut i t size n ∷ fill i t size n
+fill i t n zero = []
+fill i t n (suc k) = toPut i t n k ∷ fill i t n k
 
 -- one field of each of n sends
 unfoldable pub eachSend : (Sent → ℕ) → ℕ → State → List ℕ

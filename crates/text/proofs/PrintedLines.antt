@@ -15,7 +15,8 @@ use Rattle.memory.specs.Memory.{on}
 use Rattle.text.specs.Lines.{linesOf}
 use Rattle.text.specs.Digits.{digits}
 use Rattle.text.specs.Commands.{spaced, commandOf}
-use Rattle.text.specs.Answers.{openedFields, takenFields, closedFields, sentFields, said, answerTo, lineAnswer, output}
+use Rattle.rules.specs.Listed.{openedFields, takenFields, closedFields, sentFields}
+use Rattle.text.specs.Answers.{said, answerTo, lineAnswer, output}
 use Rattle.text.proofs.DigitLaws.{digits-one, digits-more, by-digits}
 
 -- no byte is a line feed

@@ -25,7 +25,8 @@ use Rattle.text.specs.Lines.{linesOf}
 use Rattle.text.specs.Digits.{digitsBy, isDigit, digitsOff, numberOff, spacedOff}
 use Rattle.text.specs.Commands.{commandOf}
 use Rattle.text.specs.Writing.{answerLine}
-use Rattle.text.specs.Answers.{openedFields, takenFields, closedFields, sentFields, said, unknown, answerTo, output, most, lift}
+use Rattle.rules.specs.Listed.{openedFields, takenFields, closedFields, sentFields}
+use Rattle.text.specs.Answers.{said, unknown, answerTo, output, most, lift}
 use Rattle.text.proofs.ShownCommands.{command-exact}
 use Rattle.text.proofs.OutputLaws.{lift-short}
 

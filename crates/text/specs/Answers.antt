@@ -7,26 +7,15 @@ use Prim.Native.Nat.{ℕ, _+_, _*_, _≤_}
 use lib.Dec.{ltb}
 use lib.ListN.{length, take}
 use Rattle.answers.specs.Answer.{numberOf, Answer, refused, given}
-use Rattle.rules.specs.Next.{Sent, nextCall}
-use Rattle.rules.specs.Calls.{Opened, Taken, Closed, openCall, putCall, closeCall, Call, toOpen, toPut, toClose, toNext, toStart, toAsk}
+use Rattle.rules.specs.Next.{nextCall}
+use Rattle.rules.specs.Calls.{openCall, putCall, closeCall, Call, toOpen, toPut, toClose, toNext, toStart, toAsk}
+use Rattle.rules.specs.Listed.{openedFields, takenFields, closedFields, sentFields}
 use Rattle.memory.specs.Memory.{Left, on, freshMemory}
 use Rattle.text.specs.Lines.{linesOf}
 use Rattle.text.specs.Commands.{commandOf}
 use Rattle.text.specs.Writing.{written, answerLine}
 
 -- ---- "the letter and the answer's fields as listed above, or `R` and the number"
-
-abbrev pub openedFields : Opened → List ℕ
-openedFields o = o .slot ∷ o .ticket ∷ []
-
-abbrev pub takenFields : Taken → List ℕ
-takenFields t = t .serial ∷ t .waiting ∷ []
-
-abbrev pub closedFields : Closed → List ℕ
-closedFields c = c .freed ∷ []
-
-abbrev pub sentFields : Sent → List ℕ
-sentFields s = s .slot ∷ s .ticket ∷ s .length ∷ s .reference ∷ s .serial ∷ s .started ∷ s .terms ∷ []
 
 -- `R` is 82
 abbrev pub said : {A : Type 0} → ℕ → (A → List ℕ) → Answer A → List ℕ

@@ -1,6 +1,6 @@
 -- Each command's call leaves the bytes, and its answer is what is printed.
 use mathlib.Core.Path.{refl}
-use Rattle.text.specs.Answers.{openedFields, takenFields, closedFields, sentFields}
+use Rattle.rules.specs.Listed.{openedFields, takenFields, closedFields, sentFields}
 use Rattle.text.proofs.PrintingLaws.{left-printed}
 use borrow.Author.Needs.{needs}
 use Rattle.text.proofs.answer.answer.Statement.{statement}
