@@ -70,7 +70,7 @@ int main(void)
 {
     struct channel door, drive, old_door;
 
-    if (uplink_start(state, sizeof state) != UPLINK_ACCEPTED)
+    if (uplink_start(state, sizeof state, UPLINK_HOLDING) != UPLINK_ACCEPTED)
         return 1;
     door = open_channel("door", 1);
     drive = open_channel("drive", 8);

@@ -2,7 +2,7 @@
  * uplink.h - the scheduler of a lift adapter's uplink, for its driver in C.
  *
  * The scheduler keeps nothing of its own: every call is lent the whole state, UPLINK_STATE_LENGTH bytes, which
- * uplink_start makes fresh. Each call checks that memory whole before it acts. The result of a call is its number:
+ * uplink_start makes fresh (memory of zeros is no state). Each call checks that memory whole before it acts. The result of a call is its number:
  * 0 if it was accepted, else one of enum uplink_refusal, and then the state keeps every byte and the answer's fields
  * are 0. An answer is a lent buffer of an exact length; its fields are 4 bytes each, lowest byte first, and
  * uplink_field reads one (uplink_lead: one field of 8 bytes, two's complement, read by uplink_signed). A buffer of
@@ -31,7 +31,7 @@ extern "C" {
 #endif
 
 /* Version of this interface: major * 10000 + minor * 100 + patch. */
-#define UPLINK_VERSION 10200
+#define UPLINK_VERSION 20000
 
 /* Lengths in bytes of the lent state and of each call's answer. */
 #define UPLINK_STATE_LENGTH 7040
@@ -68,27 +68,37 @@ extern "C" {
 #define UPLINK_VISIT_LIMIT 2046
 #define UPLINK_REST_LIMIT 1023
 
-/* One uplink_next takes at most UPLINK_MOST_TERMS terms. */
+/*
+ * The editions, one for each state. In edition 1 the order falls as soon as the heaviest row leaves, and one uplink_next
+ * takes at most UPLINK_MOST_TERMS terms. In edition 2 it is held until the round ends, and one uplink_next takes up to
+ * 2^order - 1 terms, in one step: it takes no longer. The README says which one to choose.
+ */
+#define UPLINK_FALLING 1
+#define UPLINK_HOLDING 2
 #define UPLINK_MOST_TERMS 2
 
 /* The numbers sent back. uplink_text has them in words. */
 enum uplink_refusal {
     UPLINK_ACCEPTED = 0,
-    UPLINK_NO_SLOT = 1,     /* slot above 63 */
-    UPLINK_NOT_PRESENT = 2, /* slot free, or ticket not its present one */
-    UPLINK_AT_CLOSING = 3,  /* channel is closing */
-    UPLINK_BAD_LENGTH = 4,  /* length 0 or above 1,014 */
-    UPLINK_FULL = 5,        /* 16 records wait already */
-    UPLINK_BAD_WEIGHT = 6,  /* weight 0 or above 4,095 */
-    UPLINK_NONE_FREE = 7,   /* no slot can be opened */
-    UPLINK_NONE_WAITS = 8,  /* no record waits */
-    UPLINK_NO_ROW = 9,      /* two terms taken and both columns empty (no sound state gives it) */
-    UPLINK_UNSOUND = 10,    /* lent state unsound or of wrong length; answer buffer of wrong length */
-    UPLINK_NO_TERM = 11,    /* order not 1 to 12, or position not 1 to 2^order - 1 */
+    UPLINK_NO_SLOT = 1,      /* slot above 63 */
+    UPLINK_NOT_PRESENT = 2,  /* slot free, or ticket not its present one */
+    UPLINK_AT_CLOSING = 3,   /* channel is closing */
+    UPLINK_BAD_LENGTH = 4,   /* length 0 or above 1,014 */
+    UPLINK_FULL = 5,         /* 16 records wait already */
+    UPLINK_BAD_WEIGHT = 6,   /* weight 0 or above 4,095 */
+    UPLINK_NONE_FREE = 7,    /* no slot can be opened */
+    UPLINK_NONE_WAITS = 8,   /* no record waits */
+    UPLINK_NO_ROW = 9,       /* two terms taken and both columns empty (no sound state gives it) */
+    UPLINK_UNSOUND = 10,     /* lent state unsound or of wrong length; answer buffer of wrong length */
+    UPLINK_NO_TERM = 11,     /* order not 1 to 12, or position not 1 to 2^order - 1 */
+    UPLINK_BAD_EDITION = 12, /* edition not 1 or 2 */
 };
 
-/* Makes the lent memory the fresh state: all slots free, all zeros. Refused only for its length. */
-uint32_t uplink_start(uint8_t *state, size_t state_length);
+/*
+ * Makes the lent memory the fresh state of an edition, UPLINK_FALLING or UPLINK_HOLDING: all slots free, all zeros but the
+ * edition. Refused for its length, then for another edition, whatever else stands there.
+ */
+uint32_t uplink_start(uint8_t *state, size_t state_length, uint32_t edition);
 
 /* Opens a channel of a weight. Answer: slot, ticket, which together name it from now on. */
 uint32_t uplink_open(uint8_t *state, size_t state_length, uint32_t weight, uint8_t *answer, size_t answer_length);
@@ -106,7 +116,7 @@ uint32_t uplink_close(uint8_t *state, size_t state_length, uint32_t slot, uint32
 
 /*
  * Takes the next record to send off its queue, for good. Answer: slot, ticket, length, reference, serial, 1 if this
- * send started a visit else 0, terms taken (0, 1 or 2).
+ * send started a visit else 0, terms taken.
  */
 uint32_t uplink_next(uint8_t *state, size_t state_length, uint8_t *answer, size_t answer_length);
 
@@ -155,6 +165,7 @@ static inline const char *uplink_text(uint32_t number)
     case UPLINK_NO_ROW: return "no row in the columns of two terms";
     case UPLINK_UNSOUND: return "state unsound, or state or answer of wrong length";
     case UPLINK_NO_TERM: return "no such term";
+    case UPLINK_BAD_EDITION: return "no such edition";
     default: return "not a number of these calls";
     }
 }

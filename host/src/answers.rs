@@ -1,7 +1,7 @@
-//! The answers of the calls and the numbers sent back (document 01, "The calls" and "Numbers sent back"; the longest length is document 02's), for the
-//! independent scheduler: written from the documents, not taken from the wrapper.
+//! The answers of the calls and the numbers sent back (document 01, "The calls" and "Numbers sent back"; the longest length and the last number are
+//! document 02's), for the independent scheduler: written from the documents, not taken from the wrapper.
 
-/// Why a call is refused: document 01's number, under the header's name.
+/// Why a call is refused: the documents' number, under the header's name.
 #[derive(Clone, Copy, Debug, PartialEq, Eq)]
 pub enum Refusal {
     /// "slot above 63"
@@ -26,10 +26,12 @@ pub enum Refusal {
     Unsound = 10,
     /// "order not 1 to 12, or position not 1 to 2^order - 1"
     NoTerm = 11,
+    /// "edition not 1 or 2"
+    BadEdition = 12,
 }
 
 impl Refusal {
-    pub const ALL: [Refusal; 11] = [
+    pub const ALL: [Refusal; 12] = [
         Refusal::NoSlot,
         Refusal::NotPresent,
         Refusal::AtClosing,
@@ -41,9 +43,10 @@ impl Refusal {
         Refusal::NoRow,
         Refusal::Unsound,
         Refusal::NoTerm,
+        Refusal::BadEdition,
     ];
 
-    /// Document 01's number.
+    /// The documents' number.
     pub fn number(self) -> u32 {
         self as u32
     }
@@ -85,7 +88,7 @@ pub struct Sent {
     pub serial: u32,
     /// This send started the visit.
     pub started: bool,
-    /// Terms taken: 0, 1 or 2.
+    /// Terms taken: 0, 1 or 2; in edition 2 up to 2^k - 1, k as before the call.
     pub terms: u32,
 }
 

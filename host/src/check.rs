@@ -2,8 +2,8 @@
 //! It answers as [`crate::layout::is_sound_memory`] does, by another way, and is what the benchmark measures against.
 
 use crate::layout::{
-    Field, COLUMN, DEFICIT, KIND, LENGTH, LENGTHS, NEXT_SERIAL, NOTHING, ORDER, PLACES, POSITION, REFERENCES, ROWS, ROW_COUNT, TICKET,
-    TO_VISIT, VISIT, WAITING, WEIGHT,
+    Field, COLUMN, DEFICIT, EDITION, KIND, LENGTH, LENGTHS, NEXT_SERIAL, NOTHING, ORDER, PLACES, POSITION, REFERENCES, ROWS, ROW_COUNT,
+    TICKET, TO_VISIT, VISIT, WAITING, WEIGHT,
 };
 use crate::scheduler::{COLUMNS, FRAMING, LARGEST_WEIGHT, LONGEST, MOST_WAITING, SLOTS};
 use crate::sound::{LARGEST_DEFICIT, LARGEST_IN_VISIT};
@@ -80,7 +80,7 @@ fn check_slot(bytes: &[u8], slot: usize, place: usize) -> Option<Slot> {
     (deficit <= most).then_some(Slot { waiting, weight, deficit, cost })
 }
 
-/// Each slot with records is a row once, no other is; zeros follow; the order is that of their weights.
+/// Each slot with records is a row once, no other is; zeros follow; the order is that of their weights, or in edition 2 at least that and at most 12.
 fn rows_hold(bytes: &[u8], slots: &[Slot; SLOTS]) -> bool {
     let count = small(bytes, &ROW_COUNT, 0);
     if count > SLOTS || count != slots.iter().filter(|slot| slot.waiting > 0).count() {
@@ -96,8 +96,14 @@ fn rows_hold(bytes: &[u8], slots: &[Slot; SLOTS]) -> bool {
         seen[row] = true;
         weights |= slots[row].weight;
     }
-    let order = u64::BITS - weights.leading_zeros();
-    behind.iter().all(|&byte| byte == 0) && number(bytes, &ORDER, 0) == u64::from(order)
+    let (order, of_rows) = (number(bytes, &ORDER, 0), u64::from(u64::BITS - weights.leading_zeros()));
+    let most = match small(bytes, &EDITION, 0) {
+        1 => of_rows,
+        2 if count > 0 => COLUMNS,
+        2 => 0,
+        _ => return false,
+    };
+    behind.iter().all(|&byte| byte == 0) && (of_rows..=most).contains(&order)
 }
 
 fn scan_holds(bytes: &[u8], slots: &[Slot; SLOTS]) -> bool {
@@ -105,7 +111,12 @@ fn scan_holds(bytes: &[u8], slots: &[Slot; SLOTS]) -> bool {
     let to_visit = number(bytes, &TO_VISIT, 0);
     let visit = small(bytes, &VISIT, 0);
     // rows_hold has bounded the order by 12.
-    if position >= 1 << number(bytes, &ORDER, 0) || (to_visit == 0 && column != 0) || (to_visit != 0 && column >= COLUMNS) {
+    let last = (1 << number(bytes, &ORDER, 0)) - 1;
+    if position > last || (to_visit == 0 && column != 0) || (to_visit != 0 && column >= COLUMNS) {
+        return false;
+    }
+    let over = position == last && to_visit == 0 && visit == 0;
+    if over && small(bytes, &EDITION, 0) == 2 && small(bytes, &ROW_COUNT, 0) > 0 {
         return false;
     }
     for (slot, known) in slots.iter().enumerate() {

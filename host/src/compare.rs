@@ -122,13 +122,13 @@ impl Pair {
         Ok(())
     }
 
-    /// The number and the answer bytes that document 01 gives the call; the expected memory follows.
+    /// The number and the answer bytes that the documents give the call; the expected memory follows.
     fn expect(&mut self, call: &Call) -> (u32, Vec<u8>) {
         let reply = match *call {
-            Call::Start => {
-                self.scheduler = Some(Scheduler::start());
-                Ok(Vec::new())
-            }
+            Call::Start { edition } => Scheduler::start(edition).map(|fresh| {
+                self.scheduler = Some(fresh);
+                Vec::new()
+            }),
             Call::Lead { w1, v1, w2, v2 } => spread::lead(w1, v1, w2, v2).map(|lead| lead.to_le_bytes().to_vec()),
             Call::Term { order, position } => spread::term(order, position).map(|term| answer_bytes(&[term])),
             _ => match &mut self.scheduler {
@@ -193,7 +193,7 @@ pub fn state_call(scheduler: &mut Scheduler, call: &Call) -> Result<Vec<u32>, Re
         Call::Close { slot, ticket } => scheduler.close_sound(slot, ticket).map(|done| done.fields()),
         Call::Next => scheduler.next_sound().map(|done| done.fields()),
         Call::Ask { slot, ticket } => scheduler.ask_sound(slot, ticket).map(|done| done.fields()),
-        Call::Start | Call::Lead { .. } | Call::Term { .. } => Ok(Vec::new()),
+        Call::Start { .. } | Call::Lead { .. } | Call::Term { .. } => Ok(Vec::new()),
     }
 }
 

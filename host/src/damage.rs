@@ -1,12 +1,13 @@
 //! Memories that break a rule of soundness, by name: each rule alone where that can be, and bytes that stand for nothing.
 
-use crate::layout::{self, KIND, LENGTHS, NOTHING, PLACES, REFERENCES, ROWS, ROW_COUNT, VISIT, WAITING};
+use crate::layout::{self, EDITION, KIND, LENGTHS, NOTHING, PLACES, REFERENCES, ROWS, ROW_COUNT, VISIT, WAITING};
 use crate::random::Random;
-use crate::scheduler::{Kind, Record, Scheduler, FRAMING};
+use crate::scheduler::{Kind, Record, Scheduler, EDITIONS, FRAMING};
 use crate::sound::Rule;
-use crate::states::{full, rich};
+use crate::states::{door, full, rich};
 
 /// A sound state changed so that it breaks exactly these rules.
+#[derive(Clone)]
 pub struct Breakage {
     pub name: &'static str,
     pub rules: &'static [Rule],
@@ -22,20 +23,21 @@ fn broken(name: &'static str, rules: &'static [Rule], from: Scheduler, change: f
 /// The state with one number just beyond its limit, or at most a byte beyond; some are still within, and then the state may be sound.
 pub fn beyond_a_limit(random: &mut Random, from: &Scheduler) -> Scheduler {
     let mut state = from.clone();
-    let choice = if state.rows.is_empty() { 0 } else { random.below(6) };
+    let choice = if state.rows.is_empty() { random.below(3) } else { random.below(8) };
     match choice {
-        0 => state.scan.position = 1 << state.order,
-        1 => state.order += 1,
-        2 => visit_just_paid_for(random, &mut state),
+        0 => state.scan.position = random.pick(&[(1 << state.order) - 1, 1 << state.order]),
+        1 => state.order = random.pick(&[state.order + 1, state.order.saturating_sub(1), 12, 13]),
+        2 => state.edition = random.pick(&[0, 1, 2, 3, 255]),
+        3 | 4 => visit_just_paid_for(random, &mut state),
         _ => {
             let channel = &mut state.channels[random.pick(&from.rows)];
             let record = random.below(channel.records.len() as u64) as usize;
             match choice {
-                3 => {
+                5 => {
                     let near = random.from_to(1_014, 1_024);
                     channel.records[record].length = random.pick(&[0, 1_015, near, 1_279]);
                 }
-                4 => channel.deficit = random.pick(&[1_024, 1_279, 2_047]),
+                6 => channel.deficit = random.pick(&[1_024, 1_279, 2_047]),
                 _ => {
                     // The order follows, so that the weight alone is wrong.
                     channel.weight = random.pick(&[4_096, 4_351]);
@@ -59,16 +61,18 @@ fn visit_just_paid_for(random: &mut Random, state: &mut Scheduler) {
     channel.deficit = channel.records[0].length + random.pick(&[0, FRAMING - 1, FRAMING, FRAMING + 1]);
 }
 
-/// Each rule over the plain structure, broken in turn.
+/// Each rule over the plain structure, broken in turn, in both editions.
 pub fn breakages() -> Vec<Breakage> {
-    let mut list = of_channels();
-    list.extend(of_rows());
-    list.extend(of_the_scan());
+    let of_both = |edition: u64| [of_channels(edition), of_rows(edition), of_the_scan(edition)].concat();
+    let mut list: Vec<Breakage> = EDITIONS.into_iter().flat_map(of_both).collect();
+    list.extend(of_edition_1());
+    list.extend(of_edition_2());
+    list.extend(of_no_edition());
     list
 }
 
-fn of_channels() -> Vec<Breakage> {
-    let rich = |name, rules, change: fn(&mut Scheduler)| broken(name, rules, rich(), change);
+fn of_channels(edition: u64) -> Vec<Breakage> {
+    let rich = |name, rules, change: fn(&mut Scheduler)| broken(name, rules, rich(edition), change);
     vec![
         rich("a free slot has a weight", &[Rule::Free], |state| state.channels[0].weight = 1),
         rich("a free slot has a deficit", &[Rule::Free, Rule::Deficit], |state| state.channels[0].deficit = 1),
@@ -82,10 +86,6 @@ fn of_channels() -> Vec<Breakage> {
         rich("an open slot has weight 0", &[Rule::Held], |state| state.channels[2].weight = 0),
         rich("an open slot has weight 4,096", &[Rule::Held], |state| state.channels[2].weight = 4_096),
         rich("an open slot has weight 65,535", &[Rule::Held], |state| state.channels[2].weight = 65_535),
-        rich("a row has weight 4,096", &[Rule::Held], |state| {
-            state.channels[5].weight = 4_096;
-            state.order = 13;
-        }),
         rich("a closing slot has no record", &[Rule::Held], |state| state.channels[2].kind = Kind::Closing),
         rich("a length is 0", &[Rule::Records], |state| state.channels[1].records[1].length = 0),
         rich("a length is 1,015", &[Rule::Records], |state| state.channels[1].records[1].length = 1_015),
@@ -102,9 +102,9 @@ fn of_channels() -> Vec<Breakage> {
     ]
 }
 
-fn of_rows() -> Vec<Breakage> {
-    let rich = |name, change: fn(&mut Scheduler)| broken(name, &[Rule::Rows], rich(), change);
-    let fresh = |name, change: fn(&mut Scheduler)| broken(name, &[Rule::Rows], Scheduler::start(), change);
+fn of_rows(edition: u64) -> Vec<Breakage> {
+    let rich = |name, change: fn(&mut Scheduler)| broken(name, &[Rule::Rows], rich(edition), change);
+    let fresh = |name, change: fn(&mut Scheduler)| broken(name, &[Rule::Rows], Scheduler::fresh(edition), change);
     vec![
         rich("a row is missing", |state| {
             state.rows.retain(|&row| row != 5);
@@ -119,27 +119,26 @@ fn of_rows() -> Vec<Breakage> {
         rich("a row that is free", |state| state.rows.push(0)),
         rich("a row above 63", |state| state.rows.push(64)),
         rich("a row above 63 in place of another", |state| state.rows[4] = 255),
-        rich("the order is one too high", |state| state.order = 5),
         rich("the order is one too low", |state| state.order = 3),
+        rich("the order is 13", |state| state.order = 13),
         rich("the order is 255", |state| state.order = 255),
         rich("the order is 0 with rows", |state| {
             state.order = 0;
             state.scan.position = 0;
         }),
-        rich("the order counts a channel that is no row", |state| state.order = 12),
         fresh("an order without rows", |state| state.order = 1),
-        fresh("a row without channels", |state| state.rows.push(0)),
     ]
 }
 
-fn of_the_scan() -> Vec<Breakage> {
-    let rich = |name, rules, change: fn(&mut Scheduler)| broken(name, rules, rich(), change);
+fn of_the_scan(edition: u64) -> Vec<Breakage> {
+    let rich = |name, rules, change: fn(&mut Scheduler)| broken(name, rules, rich(edition), change);
+    let fresh = |name, rules, change: fn(&mut Scheduler)| broken(name, rules, Scheduler::fresh(edition), change);
     vec![
         rich("P is 2^k", &[Rule::Position], |state| state.scan.position = 16),
         rich("P is 65,535", &[Rule::Position], |state| state.scan.position = 65_535),
-        broken("P is 1 without rows", &[Rule::Position], Scheduler::start(), |state| state.scan.position = 1),
+        fresh("P is 1 without rows", &[Rule::Position], |state| state.scan.position = 1),
         rich("a column without slots to visit", &[Rule::ToVisit], |state| state.scan.to_visit.clear()),
-        broken("a column without rows", &[Rule::ToVisit], Scheduler::start(), |state| state.scan.column = 1),
+        fresh("a column without rows", &[Rule::ToVisit], |state| state.scan.column = 1),
         rich("a slot to visit without the noted bit", &[Rule::ToVisit], |state| {
             state.scan.visit = None;
             state.scan.to_visit.insert(63);
@@ -153,7 +152,7 @@ fn of_the_scan() -> Vec<Breakage> {
         rich("slots to visit of another column", &[Rule::ToVisit], |state| state.scan.column = 3),
         rich("column 12", &[Rule::ToVisit], |state| state.scan.column = 12),
         rich("column 255", &[Rule::ToVisit], |state| state.scan.column = 255),
-        broken("slots to visit without rows", &[Rule::ToVisit], Scheduler::start(), |state| {
+        fresh("slots to visit without rows", &[Rule::ToVisit], |state| {
             state.scan.to_visit.insert(0);
         }),
         rich("a visit of a slot without records", &[Rule::Visit], |state| state.scan.visit = Some(2)),
@@ -168,7 +167,7 @@ fn of_the_scan() -> Vec<Breakage> {
         rich("a visit with deficit 0", &[Rule::Visit], |state| state.channels[63].deficit = 0),
         rich("a visit with deficit 2,047", &[Rule::Visit], |state| state.channels[63].deficit = 2_047),
         rich("a visit with deficit 65,535", &[Rule::Visit], |state| state.channels[63].deficit = 65_535),
-        broken("a visit without rows", &[Rule::Visit], Scheduler::start(), |state| state.scan.visit = Some(0)),
+        fresh("a visit without rows", &[Rule::Visit], |state| state.scan.visit = Some(0)),
         rich("a deficit above 1,023 after its visit", &[Rule::Deficit], |state| {
             state.scan.visit = None;
             state.channels[63].deficit = 1_024;
@@ -176,10 +175,81 @@ fn of_the_scan() -> Vec<Breakage> {
     ]
 }
 
-/// Memories with a single wrong byte: bytes that stand for nothing, and values that no state has.
+/// What edition 2 takes for sound.
+fn of_edition_1() -> Vec<Breakage> {
+    let rich = |name, rules, change: fn(&mut Scheduler)| broken(name, rules, rich(1), change);
+    vec![
+        rich("a row has weight 4,096", &[Rule::Held], |state| {
+            state.channels[5].weight = 4_096;
+            state.order = 13;
+        }),
+        rich("the order is one too high", &[Rule::Rows], |state| state.order = 5),
+        rich("the order counts a channel that is no row", &[Rule::Rows], |state| state.order = 12),
+        broken("a row without channels", &[Rule::Rows], Scheduler::fresh(1), |state| state.rows.push(0)),
+        broken("the order is held in edition 1", &[Rule::Rows], door(12, 2_047, &[1_014]), |state| state.edition = 1),
+    ]
+}
+
+/// What edition 1 takes for sound, and limits of an order that is held.
+fn of_edition_2() -> Vec<Breakage> {
+    let rich = |name, rules, change: fn(&mut Scheduler)| broken(name, rules, rich(2), change);
+    let door = |name, rules, change: fn(&mut Scheduler)| broken(name, rules, door(12, 2_047, &[1_014; 3]), change);
+    vec![
+        rich("a row has weight 4,096 and the order is 12", &[Rule::Held, Rule::Rows], |state| {
+            state.channels[5].weight = 4_096;
+            state.order = 12;
+        }),
+        rich("P is 2^k - 1 with nothing open nor to visit", &[Rule::Position], |state| {
+            state.scan.position = 15;
+            state.scan.visit = None;
+            state.scan.column = 0;
+            state.scan.to_visit.clear();
+        }),
+        door("P is 2^k - 1 of a held order with nothing open nor to visit", &[Rule::Position], |state| state.scan.position = 4_095),
+        door("P is 1 at order 1 with nothing open nor to visit", &[Rule::Position], |state| {
+            state.order = 1;
+            state.scan.position = 1;
+        }),
+        broken("a row without channels", &[Rule::Rows, Rule::Position], Scheduler::fresh(2), |state| state.rows.push(0)),
+        door("P is 2^k of a held order", &[Rule::Position], |state| state.scan.position = 4_096),
+        door("a held order of 13", &[Rule::Rows], |state| state.order = 13),
+        door("the order is 0 with a row of weight 1", &[Rule::Rows, Rule::Position], |state| {
+            state.order = 0;
+            state.scan.position = 0;
+        }),
+        door("a held order without rows", &[Rule::Rows], |state| {
+            state.channels[1].records.clear();
+            state.rows.clear();
+        }),
+        door("a held P without rows", &[Rule::Position], |state| {
+            state.channels[1].records.clear();
+            state.rows.clear();
+            state.order = 0;
+        }),
+    ]
+}
+
+/// "a state whose edition isn't 1 or 2 is unsound"
+fn of_no_edition() -> Vec<Breakage> {
+    let rich = |name, change: fn(&mut Scheduler)| broken(name, &[Rule::Edition], rich(1), change);
+    vec![
+        broken("all zeros", &[Rule::Edition], Scheduler::fresh(0), |_| {}),
+        rich("edition 0", |state| state.edition = 0),
+        rich("edition 3", |state| state.edition = 3),
+        rich("edition 4", |state| state.edition = 4),
+        rich("edition 129", |state| state.edition = 129),
+        rich("edition 255", |state| state.edition = 255),
+    ]
+}
+
+/// Memories with a single wrong byte, in both editions: bytes that stand for nothing, and values that no state has.
 pub fn wrong_bytes() -> Vec<(&'static str, Vec<u8>)> {
-    let fresh = layout::fresh();
-    let (rich, full) = (layout::to_bytes(&rich()), layout::to_bytes(&full()));
+    EDITIONS.into_iter().flat_map(wrong_bytes_of).collect()
+}
+
+fn wrong_bytes_of(edition: u64) -> Vec<(&'static str, Vec<u8>)> {
+    let fresh = layout::fresh(edition);
+    let (rich, full) = (layout::to_bytes(&rich(edition)), layout::to_bytes(&full(edition)));
     let set = |bytes: &[u8], place: usize, value: u8| {
         let mut bytes = bytes.to_vec();
         assert!(bytes[place] != value);
@@ -205,7 +275,11 @@ pub fn wrong_bytes() -> Vec<(&'static str, Vec<u8>)> {
         ("255 rows", set(&fresh, ROW_COUNT.start, 255)),
         ("visit 65", set(&rich, VISIT.start, 65)),
         ("visit 255", set(&rich, VISIT.start, 255)),
-        ("the first byte after the scan point", set(&rich, NOTHING.start, 1)),
+        ("edition 0, fresh", set(&fresh, EDITION.start, 0)),
+        ("edition 0", set(&full, EDITION.start, 0)),
+        ("edition 3, fresh", set(&fresh, EDITION.start, 3)),
+        ("edition 255", set(&full, EDITION.start, 255)),
+        ("the first byte after the edition", set(&rich, NOTHING.start, 1)),
         ("the last byte of the scan point's line", set(&rich, NOTHING.end() - 1, 128)),
         ("a length after the run", set(&rich, LENGTHS.at(run, 0), 1)),
         ("a length after the run, high byte", set(&rich, LENGTHS.at(run, 1), 1)),

@@ -4,7 +4,7 @@ use crate::history::Call;
 
 /// Each call answers document 01's number; the fields go to the answer buffer.
 pub trait Engine {
-    fn start(&mut self, state: &mut [u8]) -> u32;
+    fn start(&mut self, state: &mut [u8], edition: u32) -> u32;
     fn open(&mut self, state: &mut [u8], weight: u32, answer: &mut [u8]) -> u32;
     fn put(&mut self, state: &mut [u8], slot: u32, ticket: u32, length: u32, reference: u32, answer: &mut [u8]) -> u32;
     fn close(&mut self, state: &mut [u8], slot: u32, ticket: u32, answer: &mut [u8]) -> u32;
@@ -16,7 +16,7 @@ pub trait Engine {
     /// The call by its name.
     fn call(&mut self, call: &Call, state: &mut [u8], answer: &mut [u8]) -> u32 {
         match *call {
-            Call::Start => self.start(state),
+            Call::Start { edition } => self.start(state, edition),
             Call::Open { weight } => self.open(state, weight, answer),
             Call::Put { slot, ticket, length, reference } => self.put(state, slot, ticket, length, reference, answer),
             Call::Close { slot, ticket } => self.close(state, slot, ticket, answer),

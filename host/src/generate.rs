@@ -5,24 +5,25 @@ use crate::damage::beyond_a_limit;
 use crate::history::{Call, History, Step};
 use crate::layout;
 use crate::random::Random;
-use crate::scheduler::{Kind, Record, Scheduler, FRAMING, GRANT, LONGEST, SLOTS};
+use crate::scheduler::{Channel, Kind, Record, Scheduler, COLUMNS, EDITIONS, FRAMING, GRANT, LAST_TICKET, LONGEST, SLOTS};
 use crate::shapes::{Action, Shape, SHAPES};
 
 const BAD_SLOTS: [u32; 7] = [64, 65, 128, 256, 320, 0x8000_0000, u32::MAX];
 const BAD_WEIGHTS: [u32; 7] = [0, 4_096, 4_097, 8_191, 65_537, 0x8000_0001, u32::MAX];
 const BAD_LENGTHS: [u32; 10] = [0, 1_015, 1_016, 1_023, 1_024, 1_025, 2_048, 65_537, 0x8000_0001, u32::MAX];
+const BAD_EDITIONS: [u32; 12] = [0, 0, 3, 3, 4, 255, 257, 258, 0x0001_0001, 0x0100_0002, 0x8000_0001, u32::MAX];
 const EDGES: [u32; 8] = [0, 1, 2, 0x7fff_ffff, 0x8000_0000, 0xffff_fffe, 0xffff_ffff, 0x0001_0000];
 
-/// The history of a seed; its shape goes by the seed too.
+/// The history of a seed; its shape and the edition that it begins in go by the seed too.
 pub fn history(seed: u64) -> History {
-    let shape = &SHAPES[(seed % SHAPES.len() as u64) as usize];
-    history_of(shape, seed)
+    let count = SHAPES.len() as u64;
+    history_of(&SHAPES[(seed % count) as usize], EDITIONS[(seed / count % 2) as usize], seed)
 }
 
-/// The history of this shape and seed.
-pub fn history_of(shape: &'static Shape, seed: u64) -> History {
+/// The history of this shape and seed that begins in this edition.
+pub fn history_of(shape: &'static Shape, edition: u64, seed: u64) -> History {
     let mut random = Random::new(seed);
-    let now = (shape.begin)(&mut random);
+    let now = (shape.begin)(&mut random, edition);
     assert!(now.sound(), "a history begins in a sound state: {}, seed {seed}", shape.name);
     let memory = layout::to_bytes(&now);
     let mut builder = Builder { random, shape, now, sound: true, old: Vec::new(), steps: Vec::new() };
@@ -32,7 +33,7 @@ pub fn history_of(shape: &'static Shape, seed: u64) -> History {
 
 /// Calls that `lift` has, of this shape and seed, without end. They begin on the fresh state, as `lift` does.
 pub fn commands(shape: &'static Shape, seed: u64) -> impl Iterator<Item = Call> {
-    let now = Scheduler::start();
+    let now = Scheduler::fresh(1);
     let mut builder = Builder { random: Random::new(seed), shape, now, sound: true, old: Vec::new(), steps: Vec::new() };
     let of_lift = |action| !matches!(action, Action::Ask | Action::Apart | Action::Damage | Action::Mislent | Action::Start);
     let stretches = std::iter::from_fn(move || {
@@ -98,6 +99,7 @@ impl Builder {
             Action::Open => self.open(),
             Action::Put => self.put(),
             Action::Replug => self.replug(),
+            Action::Rise => self.rise(),
             Action::Damage => self.damage(),
             Action::Mislent => self.mislent(),
             Action::Close | Action::Next | Action::Ask | Action::Stale | Action::Bad | Action::Apart | Action::Start => {
@@ -110,8 +112,10 @@ impl Builder {
     /// Adds the call and makes it on the history's own scheduler.
     fn push(&mut self, call: Call) {
         self.steps.push(Step::Call(call));
-        if call == Call::Start {
-            (self.now, self.sound) = (Scheduler::start(), true);
+        if let Call::Start { edition } = call {
+            if let Ok(fresh) = Scheduler::start(edition) {
+                (self.now, self.sound) = (fresh, true);
+            }
         } else if self.sound {
             let accepted = state_call(&mut self.now, &call).is_ok();
             if let (Call::Close { slot, ticket }, true) = (call, accepted) {
@@ -178,9 +182,15 @@ impl Builder {
             Action::Stale => self.stale(),
             Action::Bad => self.bad(),
             Action::Apart => self.apart(),
-            Action::Start => Call::Start,
+            Action::Start => Call::Start { edition: self.edition() },
             _ => Call::Next,
         }
+    }
+
+    /// Mostly 1 or 2.
+    fn edition(&mut self) -> u32 {
+        let bad = self.random.pick(&BAD_EDITIONS);
+        self.random.pick(&[1, 1, 2, 2, bad])
     }
 
     fn on_channel(&mut self, slot: u32, ticket: u32) -> Call {
@@ -214,8 +224,9 @@ impl Builder {
         let least = self.random.pick(&[0, fullest]);
         let (slot, ticket) = self.held(|waiting| waiting >= least);
         let reference = self.reference();
-        match self.random.below(5) {
+        match self.random.below(6) {
             0 => Call::Open { weight: self.random.pick(&BAD_WEIGHTS) },
+            5 => Call::Start { edition: self.random.pick(&BAD_EDITIONS) },
             1 => Call::Put { slot, ticket, length: self.random.pick(&BAD_LENGTHS), reference },
             // Two things wrong at once: the order of checks shows.
             2 => {
@@ -262,6 +273,24 @@ impl Builder {
         }
     }
 
+    fn rise(&mut self) {
+        let before_last = |now: &Scheduler| now.scan.position + 1 < 1 << now.order;
+        for _ in 0..6 {
+            if before_last(&self.now) {
+                self.push(Call::Next);
+            }
+        }
+        let can_open = |channel: &Channel| channel.kind == Kind::Free && channel.ticket != LAST_TICKET;
+        let Some(slot) = self.now.channels.iter().position(can_open) else { return };
+        let order = self.now.order.min(COLUMNS - 1);
+        let weight = 1 << self.random.pick(&[order, order, COLUMNS - 1]);
+        self.push(Call::Open { weight });
+        let (slot, ticket) = (slot as u32, self.now.channels[slot].ticket as u32);
+        let (length, reference) = ((self.shape.length)(&mut self.random), self.reference());
+        self.push(Call::Put { slot, ticket, length, reference });
+        self.push(Call::Close { slot, ticket });
+    }
+
     /// Any call of the shape's kind that takes a state.
     fn any_call(&mut self) -> Call {
         let action = self.random.pick(&[Action::Open, Action::Put, Action::Close, Action::Next, Action::Ask, Action::Stale, Action::Bad]);
@@ -305,7 +334,7 @@ impl Builder {
 
     fn mislent(&mut self) {
         let call = match self.random.below(8) {
-            0 => Call::Start,
+            0 => Call::Start { edition: self.edition() },
             1 => self.apart(),
             _ => self.any_call(),
         };

@@ -4,7 +4,7 @@ use std::fmt;
 
 #[derive(Clone, Copy, Debug, PartialEq, Eq)]
 pub enum Call {
-    Start,
+    Start { edition: u32 },
     Open { weight: u32 },
     Put { slot: u32, ticket: u32, length: u32, reference: u32 },
     Close { slot: u32, ticket: u32 },
@@ -18,7 +18,7 @@ impl Call {
     /// The length of the call's answer buffer; Start has none.
     pub fn answer_length(&self) -> usize {
         match self {
-            Call::Start => 0,
+            Call::Start { .. } => 0,
             Call::Close { .. } | Call::Term { .. } => 4,
             Call::Open { .. } | Call::Put { .. } | Call::Lead { .. } => 8,
             Call::Ask { .. } => 16,
@@ -29,7 +29,8 @@ impl Call {
     /// Its numbers, in the order of the C entry's parameters.
     pub fn numbers(&mut self) -> Vec<&mut u32> {
         match self {
-            Call::Start | Call::Next => Vec::new(),
+            Call::Next => Vec::new(),
+            Call::Start { edition } => vec![edition],
             Call::Open { weight } => vec![weight],
             Call::Put { slot, ticket, length, reference } => vec![slot, ticket, length, reference],
             Call::Close { slot, ticket } | Call::Ask { slot, ticket } => vec![slot, ticket],
@@ -43,7 +44,7 @@ impl Call {
     }
 
     pub fn takes_answer(&self) -> bool {
-        !matches!(self, Call::Start)
+        !matches!(self, Call::Start { .. })
     }
 }
 
@@ -51,7 +52,7 @@ impl Call {
 impl fmt::Display for Call {
     fn fmt(&self, out: &mut fmt::Formatter) -> fmt::Result {
         match self {
-            Call::Start => write!(out, "# start"),
+            Call::Start { edition } => write!(out, "# start {edition}"),
             Call::Open { weight } => write!(out, "O {weight}"),
             Call::Put { slot, ticket, length, reference } => write!(out, "P {slot} {ticket} {length} {reference}"),
             Call::Close { slot, ticket } => write!(out, "C {slot} {ticket}"),

@@ -29,8 +29,9 @@ pub const POSITION: Field = ORDER.then("position", 1, 2);
 pub const COLUMN: Field = POSITION.then("column", 1, 1);
 pub const TO_VISIT: Field = COLUMN.then("slots to visit", 1, 8);
 pub const VISIT: Field = TO_VISIT.then("visit", 1, 1);
+pub const EDITION: Field = VISIT.then("edition", 1, 1);
 /// What is left of the scan point's line.
-pub const NOTHING: Field = VISIT.then("nothing", LINE - VISIT.end() % LINE, 1);
+pub const NOTHING: Field = EDITION.then("nothing", LINE - EDITION.end() % LINE, 1);
 pub const LENGTHS: Field = NOTHING.then("length", PLACES, 2);
 pub const REFERENCES: Field = LENGTHS.then("reference", PLACES, 4);
 
@@ -39,7 +40,7 @@ pub const PLACES: usize = 1_024;
 pub const LENGTH: usize = REFERENCES.end();
 
 /// Every field, in the order of their places: together they are the whole memory.
-pub const FIELDS: [&Field; 16] = [
+pub const FIELDS: [&Field; 17] = [
     &ROWS,
     &KIND,
     &WAITING,
@@ -53,6 +54,7 @@ pub const FIELDS: [&Field; 16] = [
     &COLUMN,
     &TO_VISIT,
     &VISIT,
+    &EDITION,
     &NOTHING,
     &LENGTHS,
     &REFERENCES,
@@ -105,9 +107,9 @@ pub fn name_of(place: usize) -> String {
     "outside the memory".to_string()
 }
 
-/// The memory that Start leaves.
-pub fn fresh() -> Vec<u8> {
-    to_bytes(&Scheduler::start())
+/// The memory that Start leaves in this edition.
+pub fn fresh(edition: u64) -> Vec<u8> {
+    to_bytes(&Scheduler::fresh(edition))
 }
 
 /// The memory of a state.
@@ -139,6 +141,7 @@ pub fn write(scheduler: &Scheduler, bytes: &mut [u8]) {
     COLUMN.write(bytes, 0, scan.column);
     TO_VISIT.write(bytes, 0, scan.to_visit.iter().fold(0, |mask, &slot| mask | 1 << (slot % SLOTS)));
     VISIT.write(bytes, 0, scan.visit.map_or(0, |slot| slot as u64 + 1));
+    EDITION.write(bytes, 0, scheduler.edition);
 }
 
 fn write_channel(channel: &Channel, slot: usize, bytes: &mut [u8]) {
@@ -181,7 +184,8 @@ pub fn from_bytes(bytes: &[u8]) -> Option<Scheduler> {
         channels.push(Channel { kind, ticket, weight, deficit, next_serial, records });
     }
     let rows = line(0).get(..usize::from(line(13)[0]))?.iter().map(|&slot| usize::from(slot)).collect();
-    Some(Scheduler { channels, rows, order: u64::from(line(13)[1]), scan: scan(line(13))? })
+    let (order, edition) = (u64::from(line(13)[1]), u64::from(line(13)[14]));
+    Some(Scheduler { channels, rows, order, scan: scan(line(13))?, edition })
 }
 
 /// The record at a place of the run: a byte in each of six planes of 1,024.
@@ -196,7 +200,7 @@ fn record(bytes: &[u8], place: usize) -> Option<Record> {
     Some(Record { length, reference })
 }
 
-/// The scan point in its line: position at 2 and 3, column at 4, the list at 5 to 12, the visit at 13.
+/// The scan point in its line: position at 2 and 3, column at 4, the list at 5 to 12, the visit at 13. The edition stands behind it.
 fn scan(line: &[u8]) -> Option<Scan> {
     let position = u64::from(line[2]) + 256 * u64::from(line[3]);
     let to_visit = (0..SLOTS).filter(|slot| line[5 + slot / 8] >> (slot % 8) & 1 == 1).collect();

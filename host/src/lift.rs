@@ -1,4 +1,5 @@
-//! The command program's text on the independent scheduler: from input bytes to output bytes (document 01, "The command program").
+//! The command program's text on the independent scheduler: from input bytes to output bytes (document 01, "The command program"; document 02, §3:
+//! "`lift` uses 1").
 //!
 //! Readings: an empty line is a line of another form and prints `?`; `? input` ends in a line feed; a number above 4,294,967,295 makes the
 //! line `?`, a smaller one that a rule refuses prints `R` and the number.
@@ -14,7 +15,7 @@ pub fn lift(input: &[u8]) -> Vec<u8> {
     if input.len() > LARGEST_INPUT {
         return b"? input\n".to_vec();
     }
-    let mut scheduler = Scheduler::start();
+    let mut scheduler = Scheduler::fresh(1);
     let mut output = Vec::new();
     for line in lines(input) {
         let printed = match command(line) {

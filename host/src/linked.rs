@@ -24,7 +24,7 @@ pub struct Entries {
     term: Term,
 }
 
-type Start = unsafe extern "C" fn(*mut u8, usize) -> u32;
+type Start = unsafe extern "C" fn(*mut u8, usize, u32) -> u32;
 type Open = unsafe extern "C" fn(*mut u8, usize, u32, *mut u8, usize) -> u32;
 type Put = unsafe extern "C" fn(*mut u8, usize, u32, u32, u32, u32, *mut u8, usize) -> u32;
 type Close = unsafe extern "C" fn(*mut u8, usize, u32, u32, *mut u8, usize) -> u32;
@@ -89,8 +89,8 @@ impl Entries {
 }
 
 impl Engine for Entries {
-    fn start(&mut self, state: &mut [u8]) -> u32 {
-        unsafe { (self.start)(state.as_mut_ptr(), state.len()) }
+    fn start(&mut self, state: &mut [u8], edition: u32) -> u32 {
+        unsafe { (self.start)(state.as_mut_ptr(), state.len(), edition) }
     }
 
     fn open(&mut self, state: &mut [u8], weight: u32, answer: &mut [u8]) -> u32 {

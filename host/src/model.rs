@@ -59,12 +59,17 @@ pub fn apart<const N: usize>(answer: &mut [u8], result: Result<[u8; N], Refusal>
 }
 
 impl Engine for Model {
-    fn start(&mut self, state: &mut [u8]) -> u32 {
+    fn start(&mut self, state: &mut [u8], edition: u32) -> u32 {
         if state.len() != layout::LENGTH {
             return Refusal::Unsound.number();
         }
-        layout::write(&Scheduler::start(), state);
-        0
+        match Scheduler::start(edition) {
+            Ok(fresh) => {
+                layout::write(&fresh, state);
+                0
+            }
+            Err(refusal) => refusal.number(),
+        }
     }
 
     fn open(&mut self, state: &mut [u8], weight: u32, answer: &mut [u8]) -> u32 {

@@ -1,11 +1,12 @@
-//! An independent scheduler, written from document 01 and from §1 of document 02 over plain structures: no byte layout, no code shared with the
-//! engine under test.
+//! An independent scheduler, written from document 01 and from §1 and §3 of document 02 over plain structures: no byte layout, no code shared with
+//! the engine under test.
 //!
 //! The numbers are wider than the rules allow, so that a state that breaks a rule can be held too; [`Scheduler::sound`] tells them apart.
 
 use std::collections::{BTreeSet, VecDeque};
 
 use crate::answers::{Added, Closed, Opened, Refusal, Sent, Standing, Told};
+use crate::steps::{Moment, Tell};
 
 pub const SLOTS: usize = 64;
 pub const LAST_TICKET: u64 = 4_294_967_295;
@@ -18,6 +19,8 @@ pub const MOST_WAITING: usize = 16;
 pub const GRANT: u64 = 1_024;
 /// Serials are counted modulo this: 65,535 is followed by 0.
 pub const SERIALS: u64 = 65_536;
+/// The rules that a state can be started with: 1 is "today's rule", 2 holds the order for the round.
+pub const EDITIONS: [u64; 2] = [1, 2];
 
 #[derive(Clone, Copy, Debug, PartialEq, Eq)]
 pub enum Kind {
@@ -74,6 +77,8 @@ pub struct Scheduler {
     pub rows: Vec<usize>,
     pub order: u64,
     pub scan: Scan,
+    /// "Start takes and keeps the edition"
+    pub edition: u64,
 }
 
 impl Channel {
@@ -94,13 +99,23 @@ impl Channel {
 
 /// The calls. The first check of each is 10; those ending in `_sound` are the same calls on a state already known to be sound.
 impl Scheduler {
-    /// "the fresh state: all free, all zeros".
-    pub fn start() -> Scheduler {
+    /// "Refusals: 12, start only, edition not 1 or 2, after 10"; the 10 is for the memory's length, which a scheduler does not have.
+    pub fn start(edition: u32) -> Result<Scheduler, Refusal> {
+        let edition = u64::from(edition);
+        if !EDITIONS.contains(&edition) {
+            return Err(Refusal::BadEdition);
+        }
+        Ok(Scheduler::fresh(edition))
+    }
+
+    /// "the fresh state: all free, all zeros", with the edition beside them.
+    pub fn fresh(edition: u64) -> Scheduler {
         Scheduler {
             channels: vec![Channel::fresh(); SLOTS],
             rows: Vec::new(),
             order: 0,
             scan: Scan { position: 0, column: 0, to_visit: BTreeSet::new(), visit: None },
+            edition,
         }
     }
 
@@ -174,7 +189,8 @@ impl Scheduler {
         if waiting == 1 {
             channel.deficit = 0;
             self.rows.push(slot);
-            self.order = self.order_of_rows();
+            // "the order rises at once": it may stand above that of the rows, and a row that joins never lowers it.
+            self.order = self.order.max(self.order_of_rows());
         }
         Ok(Added { serial: serial as u32, waiting: waiting as u32 })
     }
@@ -195,14 +211,22 @@ impl Scheduler {
     }
 
     pub fn next_sound(&mut self) -> Result<Sent, Refusal> {
+        self.next_by_moments(&mut |_, _| {})
+    }
+
+    /// Next, moment by moment: each is told with the state right after it.
+    pub fn next_by_moments(&mut self, tell: Tell) -> Result<Sent, Refusal> {
         if self.rows.is_empty() {
             return Err(Refusal::NoneWaits);
         }
-        let (slot, started, terms) = self.choose()?;
+        let (slot, started, terms) = self.choose(tell)?;
         let ticket = self.channels[slot].ticket as u32;
         let serial = self.channels[slot].head_serial() as u32;
         let record = self.send(slot);
+        tell(self, Moment::Sent { slot, cost: record.cost() });
         self.settle(slot);
+        tell(self, Moment::Settled { slot });
+        self.end_round(tell);
         let (length, reference) = (record.length as u32, record.reference as u32);
         Ok(Sent { slot: slot as u32, ticket, length, reference, serial, started, terms })
     }

@@ -14,6 +14,8 @@ pub enum Action {
     Ask,
     /// Close, drain, open again, then late calls with the old ticket.
     Replug,
+    /// Next up to P = 2^k - 1, and a row that is heavier than all joins there and is closed.
+    Rise,
     /// A call with a ticket that is not the present one.
     Stale,
     /// A call with numbers out of range.
@@ -29,7 +31,8 @@ pub enum Action {
 
 pub struct Shape {
     pub name: &'static str,
-    pub begin: fn(&mut Random) -> Scheduler,
+    /// In the edition that is asked for.
+    pub begin: fn(&mut Random, u64) -> Scheduler,
     /// Channels are opened up to this number, and seldom beyond it.
     pub channels: u64,
     /// Records are added to channels with fewer than this number waiting, and seldom to others.
@@ -40,17 +43,17 @@ pub struct Shape {
     pub parts: &'static [(Action, u64)],
 }
 
-fn fresh(_: &mut Random) -> Scheduler {
-    Scheduler::start()
+fn fresh(_: &mut Random, edition: u64) -> Scheduler {
+    Scheduler::fresh(edition)
 }
 
-fn any_state(random: &mut Random) -> Scheduler {
+fn any_state(random: &mut Random, edition: u64) -> Scheduler {
     let most = random.pick(&[2, 5, 20, 64]);
-    states::any_sound(random, most)
+    states::any_sound(random, edition, most)
 }
 
-fn unreached(random: &mut Random) -> Scheduler {
-    let mut list = states::unreached();
+fn unreached(random: &mut Random, edition: u64) -> Scheduler {
+    let mut list = states::unreached(edition);
     let number = random.below(list.len() as u64) as usize;
     list.swap_remove(number).1
 }
@@ -77,6 +80,16 @@ fn small_weight(random: &mut Random) -> u32 {
 /// Light and heavy, little between: the order moves far.
 fn far_weight(random: &mut Random) -> u32 {
     random.pick(&[1, 1, 2, 3, 5, 64, 300, 2_048, 4_095])
+}
+
+/// Doors and drives: a drive that leaves in mid-round holds the order far up.
+fn door_or_drive(random: &mut Random) -> u32 {
+    random.pick(&[1, 1, 2, 3, 2_048, 4_095])
+}
+
+/// Mostly 1, so that P is 2^k - 1 in every visit, until a heavier row joins.
+fn mostly_1(random: &mut Random) -> u32 {
+    random.pick(&[1, 1, 1, 1, 2, 3])
 }
 
 fn any_length(random: &mut Random) -> u32 {
@@ -119,8 +132,18 @@ const STORM: &[(Action, u64)] = &[
     (Action::Stale, 20),
     (Action::Bad, 5),
 ];
-const WRONG: &[(Action, u64)] =
-    &[(Action::Open, 6), (Action::Put, 20), (Action::Close, 4), (Action::Next, 20), (Action::Bad, 40), (Action::Apart, 10)];
+const WRONG: &[(Action, u64)] = &[
+    (Action::Open, 6),
+    (Action::Put, 20),
+    (Action::Close, 4),
+    (Action::Next, 20),
+    (Action::Bad, 40),
+    (Action::Apart, 10),
+    (Action::Start, 1),
+];
+const RISES: &[(Action, u64)] = &[(Action::Open, 6), (Action::Put, 40), (Action::Next, 40), (Action::Rise, 8)];
+/// A channel is opened now and then; else records come and go.
+const TRAFFIC: &[(Action, u64)] = &[(Action::Open, 6), (Action::Put, 40), (Action::Close, 1), (Action::Next, 40)];
 const HARM: &[(Action, u64)] = &[(Action::Open, 6), (Action::Put, 20), (Action::Close, 3), (Action::Next, 20), (Action::Damage, 20)];
 const LENGTHS: &[(Action, u64)] = &[(Action::Open, 6), (Action::Put, 20), (Action::Close, 3), (Action::Next, 20), (Action::Mislent, 40)];
 const ALL: &[(Action, u64)] = &[
@@ -140,7 +163,7 @@ const ALL: &[(Action, u64)] = &[
 
 const fn shape(
     name: &'static str,
-    begin: fn(&mut Random) -> Scheduler,
+    begin: fn(&mut Random, u64) -> Scheduler,
     channels: u64,
     deep: usize,
     parts: &'static [(Action, u64)],
@@ -157,6 +180,10 @@ pub const SHAPES: &[Shape] = &[
     Shape { weight: small_weight, ..shape("replug storm", fresh, 5, 3, STORM) },
     Shape { weight: far_weight, length: long, ..shape("orders rise and fall", fresh, 6, 2, PLAIN) },
     Shape { weight: small_weight, length: long, ..shape("rows unlike slots", fresh, 12, 2, PLAIN) },
+    Shape { weight: door_or_drive, length: long, ..shape("heavy rows leave in mid-round", fresh, 5, 1, TRAFFIC) },
+    Shape { weight: small_weight, length: long, ..shape("rounds end in a call", fresh, 4, 1, TRAFFIC) },
+    Shape { weight: far_weight, length: short, ..shape("the last terms of a round", states::near_round_end, 8, 2, TRAFFIC) },
+    Shape { weight: mostly_1, length: short, ..shape("order rises at the end of a round", fresh, 8, 3, RISES) },
     // Some of these have full channels, where two rules refuse.
     shape("bad numbers", unreached, 8, 16, WRONG),
     // More than there are slots: opening goes on when all are held.

@@ -6,7 +6,7 @@ use std::collections::HashMap;
 use crate::compare::{run, state_call, Difference};
 use crate::engine::Engine;
 use crate::history::{Call, History, Step};
-use crate::layout;
+use crate::layout::{self, EDITION};
 use crate::scheduler::{Channel, Scheduler, LONGEST, SLOTS};
 
 /// Steps that may be run while shrinking, so that a long history does not hold up the report.
@@ -18,7 +18,11 @@ const SHORT: usize = 40;
 pub fn shrink<E: Engine + ?Sized>(engine: &mut E, history: History, difference: Difference) -> (History, Difference) {
     let mut search = Search { engine, left: STEPS, best: history, difference };
     search.best.steps.truncate(search.difference.step + 1);
-    search.keep_if_it_differs(History { memory: layout::fresh(), ..search.best.clone() });
+    let edition = u64::from(search.best.memory[EDITION.start]);
+    let _ = [1, edition].into_iter().any(|edition| {
+        let candidate = History { memory: layout::fresh(edition), ..search.best.clone() };
+        search.keep_if_it_differs(candidate)
+    });
     search.remove_steps();
     search.remove_channels();
     loop {
@@ -67,7 +71,8 @@ impl<E: Engine + ?Sized> Search<'_, E> {
                 if self.keep_if_it_differs(candidate) {
                     removed = true;
                 } else {
-                    at += size;
+                    // Every two neighbours: one often undoes the other.
+                    at += if size == 2 { 1 } else { size };
                 }
             }
             size = if size == 1 && removed { 1 } else { size / 2 };
@@ -139,7 +144,6 @@ fn plainer(call: Call) -> Vec<Call> {
 /// The sound state with this slot fresh.
 fn without_channel(mut scheduler: Scheduler, slot: usize) -> Scheduler {
     scheduler.channels[slot] = Channel::fresh();
-    scheduler.rows.retain(|&row| row != slot);
     scheduler.scan.to_visit.remove(&slot);
     if scheduler.scan.to_visit.is_empty() {
         scheduler.scan.column = 0;
@@ -147,15 +151,15 @@ fn without_channel(mut scheduler: Scheduler, slot: usize) -> Scheduler {
     if scheduler.scan.visit == Some(slot) {
         scheduler.scan.visit = None;
     }
-    scheduler.order = scheduler.order_of_rows();
-    scheduler.scan.position %= 1 << scheduler.order;
+    scheduler.row_leaves(slot);
+    scheduler.end_round(&mut |_, _| {});
     scheduler
 }
 
 /// The history without the opening at a step and without the calls on its channel.
 fn without_opening(history: &History, at: usize) -> History {
     let mut steps = Vec::new();
-    let begin = layout::sound_from_bytes(&history.memory).unwrap_or_else(Scheduler::start);
+    let begin = layout::sound_from_bytes(&history.memory).unwrap_or_else(|| Scheduler::fresh(1));
     let (mut old, mut new) = (begin.clone(), begin);
     // Slot and ticket in the old history, and what they are in the new one.
     let mut now: HashMap<(u32, u32), Option<(u32, u32)>> = HashMap::new();

@@ -1,12 +1,14 @@
-//! When a state is sound: document 01's list, one rule after the other, over the plain structure.
+//! When a state is sound: document 01's list, one rule after the other, over the plain structure, and what document 02, §3 says of editions.
 //! Its last rule ("bytes that stand for nothing are 0") is about bytes and stands in [`crate::layout`].
 
-use crate::scheduler::{Channel, Kind, Record, Scheduler, LARGEST_WEIGHT, LAST_TICKET, LONGEST, MOST_WAITING, SERIALS, SLOTS};
+use crate::scheduler::{
+    Channel, Kind, Record, Scheduler, COLUMNS, EDITIONS, LARGEST_WEIGHT, LAST_TICKET, LONGEST, MOST_WAITING, SERIALS, SLOTS,
+};
 
 pub const LARGEST_DEFICIT: u64 = 1_023;
 pub const LARGEST_IN_VISIT: u64 = 2_046;
 
-/// The rules of the list, in its order.
+/// The rules of the list, in its order, and the edition's.
 #[derive(Clone, Copy, Debug, PartialEq, Eq)]
 pub enum Rule {
     Free,
@@ -17,6 +19,7 @@ pub enum Rule {
     ToVisit,
     Visit,
     Deficit,
+    Edition,
 }
 
 impl Scheduler {
@@ -30,11 +33,12 @@ impl Scheduler {
             (Rule::Free, self.channels.len() == SLOTS && self.channels.iter().all(free_is_empty)),
             (Rule::Held, self.channels.iter().all(held_is_in_range)),
             (Rule::Records, self.channels.iter().all(records_are_in_range)),
-            (Rule::Rows, self.rows_are_those_waiting() && self.order == self.order_of_rows()),
+            (Rule::Rows, self.rows_are_those_waiting() && self.order_is_of_the_rows()),
             (Rule::Position, self.position_is_in_range()),
             (Rule::ToVisit, self.list_is_of_the_column()),
             (Rule::Visit, self.visit_is_of_a_row()),
             (Rule::Deficit, self.deficits_are_in_range()),
+            (Rule::Edition, EDITIONS.contains(&self.edition)),
         ];
         rules.into_iter().filter(|(_, kept)| !kept).map(|(rule, _)| rule).collect()
     }
@@ -51,9 +55,22 @@ impl Scheduler {
         self.channels.iter().zip(times).all(|(channel, time)| time == usize::from(!channel.records.is_empty()))
     }
 
-    /// "P is at most 2^k - 1"; an order that no weight has is another rule's matter.
+    /// "0 without rows, else one more than the place of the highest one bit in any row's weight". In edition 2, "with rows, a sound order may exceed theirs,
+    /// up to 12".
+    fn order_is_of_the_rows(&self) -> bool {
+        let of_rows = self.order_of_rows();
+        let held = self.edition == 2 && !self.rows.is_empty();
+        if held {
+            of_rows <= self.order && self.order <= COLUMNS
+        } else {
+            self.order == of_rows
+        }
+    }
+
+    /// "P is at most 2^k - 1"; in edition 2, with rows, "a sound P is 2^k - 1 only while a visit is open or remains". An order that no weight has is
+    /// another rule's matter.
     fn position_is_in_range(&self) -> bool {
-        self.scan.position < 1 << self.order.min(63)
+        self.scan.position < 1 << self.order.min(63) && !self.round_is_over()
     }
 
     /// "slots still to visit are rows of the noted column, and the column is 0 when there are none"

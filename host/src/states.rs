@@ -1,8 +1,8 @@
 //! Sound states built directly: any sound state at random, serials and tickets near their ends, and states that no history reaches but that
-//! must be served all the same.
+//! must be served all the same. Each is of an edition.
 
 use crate::random::Random;
-use crate::scheduler::{Channel, Kind, Record, Scheduler, FRAMING, GRANT, LAST_TICKET, LONGEST, SLOTS};
+use crate::scheduler::{Channel, Kind, Record, Scheduler, COLUMNS, FRAMING, GRANT, LAST_TICKET, LONGEST, SLOTS};
 use crate::sound::LARGEST_IN_VISIT;
 
 /// A channel with records of these lengths.
@@ -12,8 +12,8 @@ pub fn channel(kind: Kind, ticket: u64, weight: u64, deficit: u64, next_serial: 
 }
 
 /// The state with these channels and rows, the order that belongs to them, and nothing scanned.
-pub fn with_rows(channels: &[(usize, Channel)], rows: &[usize]) -> Scheduler {
-    let mut scheduler = Scheduler::start();
+pub fn with_rows(edition: u64, channels: &[(usize, Channel)], rows: &[usize]) -> Scheduler {
+    let mut scheduler = Scheduler::fresh(edition);
     for (slot, channel) in channels {
         scheduler.channels[*slot] = channel.clone();
     }
@@ -24,7 +24,7 @@ pub fn with_rows(channels: &[(usize, Channel)], rows: &[usize]) -> Scheduler {
 
 /// A state with something of everything: free slots used before, open ones with and without records, a closing one, rows in an order unlike
 /// the slots', slots to visit, and a visit of a row without the noted bit.
-pub fn rich() -> Scheduler {
+pub fn rich(edition: u64) -> Scheduler {
     let open = |ticket, weight, deficit, serial, lengths: &[u64]| channel(Kind::Open, ticket, weight, deficit, serial, lengths);
     let channels = [
         (0, channel(Kind::Free, 5, 0, 0, 0, &[])),
@@ -35,7 +35,7 @@ pub fn rich() -> Scheduler {
         (9, open(70_000, 4, 0, 1, &[1_014])),
         (63, open(2, 2, 800, 300, &[500, 600])),
     ];
-    let mut scheduler = with_rows(&channels, &[9, 63, 3, 1, 5]);
+    let mut scheduler = with_rows(edition, &channels, &[9, 63, 3, 1, 5]);
     scheduler.scan.position = 4;
     scheduler.scan.column = 2;
     scheduler.scan.to_visit = [1, 3].into();
@@ -44,8 +44,8 @@ pub fn rich() -> Scheduler {
 }
 
 /// 64 channels of 16 records each; heads have serials from before the wrap.
-pub fn full() -> Scheduler {
-    let mut scheduler = Scheduler::start();
+pub fn full(edition: u64) -> Scheduler {
+    let mut scheduler = Scheduler::fresh(edition);
     for slot in 0..SLOTS {
         let lengths: Vec<u64> = (0..16).map(|place| 1 + (slot as u64 * 97 + place * 131) % LONGEST).collect();
         scheduler.channels[slot] = channel(Kind::Open, 1 + slot as u64, 1 + 64 * slot as u64, 0, 3, &lengths);
@@ -55,11 +55,22 @@ pub fn full() -> Scheduler {
     scheduler
 }
 
+/// One row, of weight 1 with these records, after heavier ones have left in mid-round: the order is held above its own. The last one to leave is still open.
+pub fn door(order: u64, position: u64, lengths: &[u64]) -> Scheduler {
+    let door = channel(Kind::Open, 1, 1, 0, 16, lengths);
+    let mut scheduler = with_rows(2, &[(0, channel(Kind::Open, 1, 4_095, 0, 1, &[])), (1, door)], &[1]);
+    (scheduler.order, scheduler.scan.position) = (order, position);
+    scheduler
+}
+
 /// Sound states that no history reaches, or that take very long to reach, by name.
-pub fn unreached() -> Vec<(&'static str, Scheduler)> {
-    let mut states = vec![("rich", rich()), ("full", full())];
+pub fn unreached(edition: u64) -> Vec<(&'static str, Scheduler)> {
+    let mut states = vec![("rich", rich(edition)), ("full", full(edition))];
+    if edition == 2 {
+        states.extend(held());
+    }
     let mut add = |name, change: fn(&mut Scheduler)| {
-        let mut scheduler = rich();
+        let mut scheduler = rich(edition);
         change(&mut scheduler);
         states.push((name, scheduler));
     };
@@ -69,6 +80,15 @@ pub fn unreached() -> Vec<(&'static str, Scheduler)> {
     });
     add("P is 0 with a list", |scheduler| scheduler.scan.position = 0);
     add("P is 2^k - 1 with a list and a visit", |scheduler| scheduler.scan.position = 15);
+    add("P is 2^k - 1 with a list", |scheduler| {
+        scheduler.scan.position = 15;
+        scheduler.scan.visit = None;
+    });
+    add("P is 2^k - 1 in a visit", |scheduler| {
+        scheduler.scan.position = 15;
+        scheduler.scan.column = 0;
+        scheduler.scan.to_visit.clear();
+    });
     add("a visit's deficit of 2,046", |scheduler| scheduler.channels[63].deficit = 2_046);
     add("a visit whose head costs its whole deficit", |scheduler| scheduler.channels[63].deficit = 510);
     add("a list of every row of the column", |scheduler| scheduler.scan.to_visit = [1, 3, 5, 9].into());
@@ -96,9 +116,40 @@ pub fn unreached() -> Vec<(&'static str, Scheduler)> {
     states
 }
 
+/// Those of edition 2 alone, whose order is above that of the rows.
+fn held() -> Vec<(&'static str, Scheduler)> {
+    let long = [LONGEST; 3];
+    let in_visit = |position: u64, lengths: &[u64]| {
+        let mut scheduler = door(12, position, lengths);
+        scheduler.scan.visit = Some(1);
+        scheduler.channels[1].deficit = GRANT;
+        scheduler
+    };
+    let above_rich = |position: u64| Scheduler { order: 12, ..with_position(rich(2), position) };
+    vec![
+        ("order 12 above weight 1, at the beginning", door(12, 0, &long)),
+        ("order 12 above weight 1, whose term is next", door(12, 2_047, &long)),
+        ("order 12 above weight 1, whose term is past", door(12, 2_048, &long)),
+        ("order 12 above weight 1, with one term left", door(12, 4_094, &long)),
+        ("order 2 above weight 1, with one term left", door(2, 2, &long)),
+        ("order 12 above order 4", above_rich(2_000)),
+        ("order 12 above order 4, with a list and a visit at its end", above_rich(4_095)),
+        ("order 12 above weight 1, in a visit that ends the round", in_visit(4_095, &long)),
+        ("order 12 above weight 1, in a visit that goes on at its end", in_visit(4_095, &[1, 1, LONGEST])),
+        ("order 12 above weight 1, in a visit that empties the rows", in_visit(4_095, &[1])),
+        ("order 12 above weight 1, in a visit that empties the rows in mid-round", in_visit(2_048, &[1])),
+    ]
+}
+
+/// The state at another position.
+fn with_position(mut scheduler: Scheduler, position: u64) -> Scheduler {
+    scheduler.scan.position = position;
+    scheduler
+}
+
 /// Any sound state: as many channels as asked at most, everything else at random.
-pub fn any_sound(random: &mut Random, most: u64) -> Scheduler {
-    let mut scheduler = Scheduler::start();
+pub fn any_sound(random: &mut Random, edition: u64, most: u64) -> Scheduler {
+    let mut scheduler = Scheduler::fresh(edition);
     let held = random.from_to(0, most);
     let deep = random.from_to(1, 16);
     for place in 0..SLOTS {
@@ -110,7 +161,7 @@ pub fn any_sound(random: &mut Random, most: u64) -> Scheduler {
     let waits = |slot: &usize| !scheduler.channels[*slot].records.is_empty();
     scheduler.rows = (0..SLOTS).filter(waits).collect();
     random.shuffle(&mut scheduler.rows);
-    scheduler.order = scheduler.order_of_rows();
+    scheduler.order = any_order(random, &scheduler);
     any_scan(random, &mut scheduler);
     scheduler
 }
@@ -145,11 +196,24 @@ fn any_length(random: &mut Random) -> u64 {
     }
 }
 
+/// In edition 2, half of the orders may be held above that of the rows.
+fn any_order(random: &mut Random, scheduler: &Scheduler) -> u64 {
+    let of_rows = scheduler.order_of_rows();
+    let held = scheduler.edition == 2 && of_rows > 0 && random.chance(1, 2);
+    if held {
+        random.from_to(of_rows, COLUMNS)
+    } else {
+        of_rows
+    }
+}
+
 fn any_scan(random: &mut Random, scheduler: &mut Scheduler) {
     if scheduler.rows.is_empty() {
         return;
     }
-    scheduler.scan.position = if random.chance(1, 4) { 0 } else { random.below(1 << scheduler.order) };
+    let end = 1 << scheduler.order;
+    let any = random.below(end);
+    scheduler.scan.position = random.pick(&[0, any, any, end - 1]);
     if random.chance(1, 2) {
         let column = random.below(scheduler.order);
         let listed: Vec<usize> = scheduler.column(column).into_iter().filter(|_| random.chance(2, 3)).collect();
@@ -166,11 +230,34 @@ fn any_scan(random: &mut Random, scheduler: &mut Scheduler) {
         let left = random.pick(&[next, next + 1, next.saturating_sub(1), next.saturating_sub(FRAMING)]);
         channel.deficit = random.pick(&[cost, cost + 1, cost + left, GRANT.max(cost), LARGEST_IN_VISIT]).min(LARGEST_IN_VISIT);
     }
+    // The end of a round is no state at rest: one term is left of it.
+    if scheduler.round_is_over() {
+        scheduler.scan.position -= 1;
+    }
+}
+
+/// Few light channels, and P among the last terms of the round: at the very last one where a visit is open or slots are listed.
+pub fn near_round_end(random: &mut Random, edition: u64) -> Scheduler {
+    let mut scheduler = any_sound(random, edition, 4);
+    for channel in scheduler.channels.iter_mut().filter(|channel| channel.kind != Kind::Free) {
+        channel.weight = random.from_to(1, 7);
+    }
+    scheduler.order = if random.chance(1, 2) { scheduler.order_of_rows() } else { any_order(random, &scheduler) };
+    let listed = if scheduler.rows.is_empty() { Vec::new() } else { scheduler.column(0) };
+    let listed = listed.into_iter().filter(|&slot| scheduler.scan.visit != Some(slot) && random.chance(1, 2));
+    scheduler.scan.to_visit = listed.collect();
+    scheduler.scan.column = 0;
+    let last = (1 << scheduler.order) - 1;
+    scheduler.scan.position = random.pick(&[last, last, last.saturating_sub(1), last.saturating_sub(2)]);
+    if scheduler.round_is_over() {
+        scheduler.scan.position -= 1;
+    }
+    scheduler
 }
 
 /// Few channels whose next serials are about to wrap.
-pub fn near_last_serial(random: &mut Random) -> Scheduler {
-    let mut scheduler = any_sound(random, 4);
+pub fn near_last_serial(random: &mut Random, edition: u64) -> Scheduler {
+    let mut scheduler = any_sound(random, edition, 4);
     for channel in scheduler.channels.iter_mut().filter(|channel| channel.kind != Kind::Free) {
         channel.next_serial = 65_535 - random.below(6);
     }
@@ -178,8 +265,8 @@ pub fn near_last_serial(random: &mut Random) -> Scheduler {
 }
 
 /// Every slot's ticket is one of the last three.
-pub fn near_last_ticket(random: &mut Random) -> Scheduler {
-    let mut scheduler = any_sound(random, 3);
+pub fn near_last_ticket(random: &mut Random, edition: u64) -> Scheduler {
+    let mut scheduler = any_sound(random, edition, 3);
     let only = random.from_to(1, 64) as usize;
     for (slot, channel) in scheduler.channels.iter_mut().enumerate() {
         let below = if slot < only { random.below(3) } else { 0 };

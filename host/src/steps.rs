@@ -1,8 +1,22 @@
-//! The steps of Next, and what they look at (document 01, "Next does this"). They are apart so that each can be read beside its sentence.
+//! The steps of Next, and what they look at (document 01, "Next does this"; document 02, §3). They are apart so that each can be read beside its
+//! sentence. Terms are taken one by one in both editions, and a round's end is a step of its own.
 
 use crate::answers::Refusal;
 use crate::scheduler::{Kind, Record, Scheduler, GRANT};
 use crate::spread::term_of;
+
+/// What a Next has just done.
+#[derive(Clone, Copy, Debug, PartialEq, Eq)]
+pub enum Moment {
+    Term,
+    RoundEnd,
+    VisitStart { slot: usize },
+    Sent { slot: usize, cost: u64 },
+    Settled { slot: usize },
+}
+
+/// Who is told of each moment, with the state right after it.
+pub type Tell<'a> = &'a mut dyn FnMut(&Scheduler, Moment);
 
 impl Scheduler {
     /// "0 without rows, else one more than the place of the highest one bit in any row's weight": the most halvings that
@@ -27,35 +41,64 @@ impl Scheduler {
     }
 
     /// Step 1: the slot that sends, whether its visit starts now, and the terms taken.
-    pub fn choose(&mut self) -> Result<(usize, bool, u32), Refusal> {
+    pub fn choose(&mut self, tell: Tell) -> Result<(usize, bool, u32), Refusal> {
         if let Some(slot) = self.scan.visit {
             return Ok((slot, false, 0));
         }
-        let terms = if self.scan.to_visit.is_empty() { self.take_terms()? } else { 0 };
+        let terms = if self.scan.to_visit.is_empty() { self.take_terms(tell)? } else { 0 };
         let listed = |slot: &usize| self.scan.to_visit.contains(slot);
         let first = self.rows.iter().copied().find(listed).ok_or(Refusal::NoRow)?;
         self.start_visit(first);
+        tell(self, Moment::VisitStart { slot: first });
         Ok((first, true, terms))
     }
 
-    /// "P goes up by one, and 2^k becomes 1; the column is k minus the term. If that column is empty, one more term is taken."
-    pub fn take_terms(&mut self) -> Result<u32, Refusal> {
-        let mut position = self.scan.position;
-        for terms in 1..=2 {
-            position += 1;
-            if position == 1 << self.order {
-                position = 1;
-            }
-            let column = self.order - term_of(self.order, position);
-            let rows = self.column(column);
-            if !rows.is_empty() {
-                self.scan.position = position;
-                self.scan.column = column;
-                self.scan.to_visit = rows.into_iter().collect();
+    /// Terms until one has a row; all of them are counted, a finished round's too. Edition 1: "If that column is empty, one more term is taken", and 9 is
+    /// for "two terms taken and both columns empty". Edition 2: "A call goes on taking terms, through a round's end if need be, until it finds a row."
+    pub fn take_terms(&mut self, tell: Tell) -> Result<u32, Refusal> {
+        let before = self.scan.clone();
+        let mut terms = 0;
+        while self.edition == 2 || terms < 2 {
+            self.take_term();
+            tell(self, Moment::Term);
+            terms += 1;
+            if !self.scan.to_visit.is_empty() {
                 return Ok(terms);
             }
+            self.end_round(tell);
         }
+        // A refusal changes nothing.
+        self.scan = before;
         Err(Refusal::NoRow)
+    }
+
+    /// One term: "P goes up by one, and 2^k becomes 1; the column is k minus the term", and "All rows of the column found become the slots to visit".
+    pub fn take_term(&mut self) {
+        self.scan.position += 1;
+        if self.scan.position == 1 << self.order {
+            self.scan.position = 1;
+        }
+        let column = self.order - term_of(self.order, self.scan.position);
+        self.scan.to_visit = self.column(column).into_iter().collect();
+        self.scan.column = if self.scan.to_visit.is_empty() { 0 } else { column };
+    }
+
+    /// "a round's end (term 2^k - 1 taken, no visit open, none left to visit)". In edition 1, and without rows, there is none.
+    pub fn round_is_over(&self) -> bool {
+        self.edition == 2
+            && !self.rows.is_empty()
+            && self.scan.visit.is_none()
+            && self.scan.to_visit.is_empty()
+            && self.scan.position == (1 << self.order.min(63)) - 1
+    }
+
+    /// The step at a round's end, nothing elsewhere: "then the order is worked out afresh and P is 0".
+    pub fn end_round(&mut self, tell: Tell) {
+        if self.round_is_over() {
+            self.order = self.order_of_rows();
+            self.scan.position = 0;
+            tell(self, Moment::RoundEnd);
+        }
     }
 
     /// Step 2: the slot is taken off the list and granted 1,024.
@@ -84,14 +127,22 @@ impl Scheduler {
             if channel.kind == Kind::Closing {
                 channel.free();
             }
-            self.rows.retain(|&row| row != slot);
             self.scan.visit = None;
-            self.order = self.order_of_rows();
-            self.scan.position %= 1 << self.order;
+            self.row_leaves(slot);
             return;
         };
         if head.cost() > channel.deficit {
             self.scan.visit = None;
+        }
+    }
+
+    /// Edition 1: "the order is worked out again and P becomes P mod 2^k". Edition 2: "Without rows both become 0 at once. Otherwise P isn't reduced", and
+    /// the order is held.
+    pub fn row_leaves(&mut self, slot: usize) {
+        self.rows.retain(|&row| row != slot);
+        if self.edition == 1 || self.rows.is_empty() {
+            self.order = self.order_of_rows();
+            self.scan.position %= 1 << self.order;
         }
     }
 }

@@ -17,7 +17,7 @@ pub fn text(seed: u64) -> Vec<u8> {
     let shape = &SHAPES[random.below(SHAPES.len() as u64) as usize];
     let spoilt = random.pick(&[0, 0, 5, 100]);
     let mut text = Vec::new();
-    for call in history_of(shape, seed).steps.into_iter().filter_map(Step::command) {
+    for call in history_of(shape, 1, seed).steps.into_iter().filter_map(Step::command) {
         let mut line = call.to_string().into_bytes();
         if random.chance(spoilt, 1_000) {
             spoil(&mut random, &mut line);

@@ -9,7 +9,7 @@ use host::random::Random;
 
 fn compare(shape: &'static str, calls: Vec<Call>) {
     let steps = calls.into_iter().map(Step::Call).collect();
-    let history = History { seed: 0, shape, memory: fresh(), steps };
+    let history = History { seed: 0, shape, memory: fresh(1), steps };
     if let Err(report) = run_all(&mut common::engine(), [history]) {
         panic!("{report}");
     }

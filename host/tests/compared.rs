@@ -4,7 +4,8 @@ mod common;
 
 use host::compare::{run_all, run_seeds};
 use host::generate::{history, history_of};
-use host::layout::{is_sound_memory, to_bytes};
+use host::layout::{is_sound_memory, to_bytes, EDITION};
+use host::scheduler::EDITIONS;
 use host::shapes::SHAPES;
 
 #[test]
@@ -18,10 +19,22 @@ fn all_shapes_in_turn() {
 #[test]
 fn each_shape() {
     for shape in SHAPES {
-        let histories = (1_000_000..1_000_060).map(|seed| history_of(shape, seed));
-        if let Err(report) = run_all(&mut common::engine(), histories) {
-            panic!("{report}");
+        for edition in EDITIONS {
+            let histories = (1_000_000..1_000_060).map(|seed| history_of(shape, edition, seed));
+            if let Err(report) = run_all(&mut common::engine(), histories) {
+                panic!("{report}");
+            }
         }
+    }
+}
+
+/// Every shape comes in both editions, as often in one as in the other.
+#[test]
+fn both_editions_come_in_turn() {
+    let count = SHAPES.len() as u64;
+    for shape in 0..count {
+        let editions: Vec<u8> = (0..4).map(|turn| history(shape + turn * count).memory[EDITION.start]).collect();
+        assert_eq!(editions, [1, 2, 1, 2]);
     }
 }
 
@@ -38,11 +51,13 @@ fn histories_are_the_seeds_own() {
 fn beginnings_are_sound() {
     for shape in SHAPES {
         for seed in 0..200 {
-            let memory = history_of(shape, seed).memory;
+            let edition = EDITIONS[seed as usize % 2];
+            let memory = history_of(shape, edition, seed).memory;
             assert!(is_sound_memory(&memory), "{}, seed {seed}", shape.name);
+            assert_eq!(u64::from(memory[EDITION.start]), edition);
         }
     }
-    for (name, scheduler) in host::states::unreached() {
+    for (name, scheduler) in EDITIONS.into_iter().flat_map(host::states::unreached) {
         assert!(is_sound_memory(&to_bytes(&scheduler)), "{name}");
     }
 }

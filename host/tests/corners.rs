@@ -7,11 +7,12 @@ use host::generate::history;
 use host::history::{Call, Step};
 use host::layout;
 use host::scheduler::{cost_of, Kind, Scheduler, GRANT, LAST_TICKET, LONGEST};
+use host::steps::Moment;
 
 type Count = BTreeMap<&'static str, u32>;
 
 /// Every corner that is looked for.
-const CORNERS: [&str; 33] = [
+const CORNERS: [&str; 49] = [
     "order falls with slots to visit",
     "P becomes 0 after a fall, with rows",
     "P is 2^k - 1 after a fall",
@@ -45,6 +46,23 @@ const CORNERS: [&str; 33] = [
     "3 where 4 would be given too",
     "a channel is freed at once",
     "a channel begins to drain",
+    // Of edition 2.
+    "the order is held when a row leaves",
+    "P is not reduced when a row leaves",
+    "the rows empty below a held order",
+    "the rows empty at P = 2^k - 1",
+    "a row joins below a held order",
+    "order rises at P = 2^k - 1 in a visit",
+    "order rises at P = 2^k - 1 with slots to visit",
+    "a visit stays open at P = 2^k - 1",
+    "slots are left to visit at P = 2^k - 1",
+    "a round ends with a visit",
+    "a round ends in the search for a row",
+    "two rounds end in one call",
+    "the order falls at a round's end",
+    "more than two terms taken",
+    "a thousand terms taken",
+    "as many terms taken as ever are",
 ];
 
 #[test]
@@ -58,7 +76,11 @@ fn histories_meet_every_corner() {
             match step {
                 // The rest of a history with damage is left out.
                 Step::Damage { .. } => break,
-                Step::Call(Call::Start) => now = Scheduler::start(),
+                Step::Call(call @ Call::Start { edition }) => {
+                    let started = Scheduler::start(*edition);
+                    *numbers.entry((name(call), started.as_ref().map_or_else(|refusal| refusal.number(), |_| 0))).or_insert(0) += 1;
+                    now = started.unwrap_or(now);
+                }
                 Step::Call(call) => {
                     let before = now.clone();
                     let result = state_call(&mut now, call);
@@ -74,9 +96,8 @@ fn histories_meet_every_corner() {
     for (corner, times) in count {
         assert!(times >= 20, "{corner}: {times}");
     }
-    for (call, list) in
-        [("open", &[0, 6, 7][..]), ("put", &[0, 1, 2, 3, 4, 5]), ("close", &[0, 1, 2, 3]), ("next", &[0, 8]), ("ask", &[0, 1, 2])]
-    {
+    let (start, open, put) = (("start", &[0, 12][..]), ("open", &[0, 6, 7][..]), ("put", &[0, 1, 2, 3, 4, 5][..]));
+    for (call, list) in [start, open, put, ("close", &[0, 1, 2, 3]), ("next", &[0, 8]), ("ask", &[0, 1, 2])] {
         for &number in list {
             assert!(numbers.get(&(call, number)).is_some_and(|&times| times >= 20), "{call} with number {number}");
         }
@@ -86,6 +107,7 @@ fn histories_meet_every_corner() {
 
 fn name(call: &Call) -> &'static str {
     match call {
+        Call::Start { .. } => "start",
         Call::Open { .. } => "open",
         Call::Put { .. } => "put",
         Call::Close { .. } => "close",
@@ -102,7 +124,12 @@ fn look(before: &Scheduler, after: &Scheduler, call: &Call, result: &Result<Vec<
             met("a length of 1,014 is taken", *length == 1_014);
             look_at_put(before, after, *slot as usize, fields, &mut met);
         }
-        (Call::Next, Ok(fields)) => look_at_next(before, after, fields, &mut met),
+        (Call::Next, Ok(fields)) => {
+            look_at_next(before, after, fields, &mut met);
+            if before.edition == 2 {
+                look_at_the_round(before, after, fields[6], &mut met);
+            }
+        }
         (Call::Open { .. }, Ok(fields)) => met("the last ticket is given", u64::from(fields[1]) == LAST_TICKET),
         (Call::Open { .. }, Err(number)) => {
             let free = before.channels.iter().filter(|channel| channel.kind == Kind::Free).count();
@@ -129,7 +156,11 @@ fn look_at_put(before: &Scheduler, after: &Scheduler, slot: usize, fields: &[u32
     let joins = fields[1] == 1;
     met("order rises with slots to visit", rises && !scan.to_visit.is_empty());
     met("order rises in a visit", rises && scan.visit.is_some());
-    met("order rises at P = 2^k - 1", rises && scan.position == (1 << before.order) - 1);
+    let last = scan.position == (1 << before.order) - 1;
+    met("order rises at P = 2^k - 1", rises && last);
+    met("order rises at P = 2^k - 1 in a visit", rises && last && before.edition == 2 && scan.visit.is_some());
+    met("order rises at P = 2^k - 1 with slots to visit", rises && last && before.edition == 2 && !scan.to_visit.is_empty());
+    met("a row joins below a held order", joins && after.order > after.order_of_rows());
     let of_the_column = after.channels[slot].weight >> scan.column & 1 == 1;
     met("a row of the noted column joins in the scan", joins && !scan.to_visit.is_empty() && of_the_column);
     met("a serial wraps", fields[0] == 65_535);
@@ -141,7 +172,7 @@ fn look_at_next(before: &Scheduler, after: &Scheduler, fields: &[u32], met: &mut
     let (was, is) = (&before.channels[slot], &after.channels[slot]);
     let granted = was.deficit + if started { GRANT } else { 0 };
     let left = granted - cost_of(u64::from(fields[2]));
-    let falls = after.order < before.order && after.order > 0;
+    let falls = before.edition == 1 && after.order < before.order && after.order > 0;
     let listed = !after.scan.to_visit.is_empty();
     met("order falls with slots to visit", falls && listed);
     met("P becomes 0 after a fall, with rows", falls && after.scan.position == 0 && (before.scan.position > 0 || terms > 0));
@@ -164,4 +195,34 @@ fn look_at_next(before: &Scheduler, after: &Scheduler, fields: &[u32], met: &mut
     }
     let first_listed = before.scan.to_visit.first().copied();
     met("the first row to visit is not the lowest slot", started && terms == 0 && first_listed != Some(slot));
+}
+
+/// Edition 2's corners, by the moments of the call.
+fn look_at_the_round(before: &Scheduler, after: &Scheduler, terms: u32, met: &mut impl FnMut(&'static str, bool)) {
+    let mut moments = Vec::new();
+    let mut falls = false;
+    let mut order = before.order;
+    let _ = before.clone().next_by_moments(&mut |state, moment| {
+        moments.push(moment);
+        falls |= moment == Moment::RoundEnd && state.order < order;
+        order = state.order;
+    });
+    let ends: Vec<usize> = (0..moments.len()).filter(|&at| moments[at] == Moment::RoundEnd).collect();
+    let ends_last = moments.last() == Some(&Moment::RoundEnd);
+    let leaves = after.rows.len() < before.rows.len();
+    let (rows, last) = (!after.rows.is_empty(), after.scan.position + 1 == 1 << after.order);
+    met("the order is held when a row leaves", leaves && rows && after.order > after.order_of_rows());
+    met("P is not reduced when a row leaves", leaves && rows && after.scan.position >= 1 << after.order_of_rows());
+    met("the rows empty below a held order", !rows && before.order > before.order_of_rows());
+    met("the rows empty at P = 2^k - 1", !rows && before.scan.position + u64::from(terms) + 1 == 1 << before.order);
+    met("a visit stays open at P = 2^k - 1", last && after.scan.visit.is_some());
+    met("slots are left to visit at P = 2^k - 1", last && !after.scan.to_visit.is_empty());
+    met("a round ends with a visit", ends_last);
+    met("a round ends in the search for a row", ends.len() > usize::from(ends_last));
+    met("two rounds end in one call", ends.len() == 2);
+    met("the order falls at a round's end", falls);
+    met("more than two terms taken", terms > 2);
+    met("a thousand terms taken", terms >= 1_000);
+    met("as many terms taken as ever are", terms > 2 && u64::from(terms) == 1 << (before.order - 1));
+    assert!(u64::from(terms) < 1 << before.order && ends.len() <= 2, "{terms} terms at order {}", before.order);
 }

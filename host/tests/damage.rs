@@ -8,7 +8,7 @@ use host::damage::{breakages, wrong_bytes};
 use host::history::{Call, History, Step};
 use host::layout::{is_sound_memory, to_bytes, KIND, LENGTH, LENGTHS, ROW_COUNT, TICKET};
 use host::random::Random;
-use host::scheduler::Scheduler;
+use host::scheduler::{Scheduler, EDITIONS};
 use host::states;
 
 /// Each call that takes a state but Start, with numbers that rich() accepts, then with numbers that some rule refuses.
@@ -57,7 +57,7 @@ fn each_rule_broken() {
 #[test]
 fn unreached_states_are_served() {
     let mut histories = Vec::new();
-    for (name, scheduler) in states::unreached() {
+    for (name, scheduler) in EDITIONS.into_iter().flat_map(states::unreached) {
         assert_eq!(scheduler.broken(), [], "{name}");
         let memory = to_bytes(&scheduler);
         assert!(is_sound_memory(&memory) && record_by_record(&memory), "{name}");
@@ -69,11 +69,13 @@ fn unreached_states_are_served() {
     compare(histories);
 }
 
-/// Start looks at the length alone.
+/// Start looks at the length and the edition alone.
 #[test]
 fn start_mends_any_memory() {
     let damaged = breakages().into_iter().map(|breakage| (breakage.name, to_bytes(&breakage.scheduler)));
-    let calls = [Call::Next, Call::Start, Call::Open { weight: 1 }, Call::Next];
+    let [first, second, none] = [1, 2, 3].map(|edition| Call::Start { edition });
+    let calls =
+        [Call::Next, none, Call::Next, first, Call::Open { weight: 1 }, none, Call::Next, second, Call::Open { weight: 2 }, Call::Next];
     compare(damaged.chain(wrong_bytes()).map(|(name, memory)| history(name, 0, memory, &calls)));
 }
 
@@ -81,9 +83,17 @@ fn start_mends_any_memory() {
 #[test]
 fn each_byte_flipped() {
     let mut random = Random::new(21);
-    let any = states::any_sound(&mut random, 64);
+    let any = states::any_sound(&mut random, 2, 64);
+    let door = states::door(12, 2_047, &[1_014; 3]);
     let mut calls = 0;
-    for (name, scheduler) in [("fresh", Scheduler::start()), ("rich", states::rich()), ("full", states::full()), ("any", any)] {
+    for (name, scheduler) in [
+        ("fresh", Scheduler::fresh(1)),
+        ("rich", states::rich(1)),
+        ("rich", states::rich(2)),
+        ("full", states::full(1)),
+        ("any", any),
+        ("door", door),
+    ] {
         let bytes = to_bytes(&scheduler);
         for place in 0..LENGTH {
             let mut flips = vec![1, 1 << random.below(8), 0xff];
@@ -98,7 +108,7 @@ fn each_byte_flipped() {
             }
         }
     }
-    assert!(calls > 80_000);
+    assert!(calls > 120_000);
 }
 
 #[test]
@@ -106,7 +116,7 @@ fn damage_at_random() {
     let mut random = Random::new(22);
     for seed in 0..4_000 {
         let most = random.pick(&[2, 8, 64]);
-        let mut memory = to_bytes(&states::any_sound(&mut random, most));
+        let mut memory = to_bytes(&states::any_sound(&mut random, EDITIONS[seed as usize % 2], most));
         for _ in 0..random.from_to(1, 4) {
             let end = random.pick(&[KIND.start, TICKET.start, ROW_COUNT.start, LENGTHS.start, LENGTH]);
             let place = random.below(end as u64) as usize;

@@ -1,123 +1,12 @@
-//! Document 01's own checks, with document 02's lengths, on the independent scheduler and on the engine under test.
+//! Document 01's own checks, with document 02's lengths, on the independent scheduler and on the engine under test, in both editions: no check has a
+//! round's end, or a row that leaves beside others.
 
-mod common;
+mod calls;
 
-use host::answers::{Added, Closed, Fields, Opened, Refusal, Sent};
-use host::engine::Engine;
-use host::history::Call;
-use host::layout::LENGTH;
-use host::model::answer_fields;
+use calls::{in_both_editions, on_both};
+use host::answers::{Added, Closed, Opened, Refusal};
 use host::scheduler::Scheduler;
-use host::spread::{lead, sequence, term};
-
-/// The calls that the checks make, whoever answers them.
-trait Calls {
-    fn start(&mut self);
-    fn open(&mut self, weight: u32) -> Result<Opened, Refusal>;
-    fn put(&mut self, slot: u32, ticket: u32, length: u32, reference: u32) -> Result<Added, Refusal>;
-    fn close(&mut self, slot: u32, ticket: u32) -> Result<Closed, Refusal>;
-    fn next(&mut self) -> Result<Sent, Refusal>;
-    fn term(&mut self, order: u32, position: u32) -> Result<u32, Refusal>;
-    fn lead(&mut self, w1: u32, v1: u32, w2: u32, v2: u32) -> Result<i64, Refusal>;
-
-    /// Channels of these weights in slots 0, 1, ...; each given so many records of one length.
-    fn fill(&mut self, weights: &[u32], records: usize, length: u32) {
-        self.start();
-        for &weight in weights {
-            let opened = self.open(weight).unwrap();
-            for reference in 0..records {
-                self.put(opened.slot, opened.ticket, length, reference as u32).unwrap();
-            }
-        }
-    }
-}
-
-impl Calls for Scheduler {
-    fn start(&mut self) {
-        *self = Scheduler::start();
-    }
-
-    fn open(&mut self, weight: u32) -> Result<Opened, Refusal> {
-        Scheduler::open(self, weight)
-    }
-
-    fn put(&mut self, slot: u32, ticket: u32, length: u32, reference: u32) -> Result<Added, Refusal> {
-        Scheduler::put(self, slot, ticket, length, reference)
-    }
-
-    fn close(&mut self, slot: u32, ticket: u32) -> Result<Closed, Refusal> {
-        Scheduler::close(self, slot, ticket)
-    }
-
-    fn next(&mut self) -> Result<Sent, Refusal> {
-        Scheduler::next(self)
-    }
-
-    fn term(&mut self, order: u32, position: u32) -> Result<u32, Refusal> {
-        term(order, position)
-    }
-
-    fn lead(&mut self, w1: u32, v1: u32, w2: u32, v2: u32) -> Result<i64, Refusal> {
-        lead(w1, v1, w2, v2)
-    }
-}
-
-/// The engine under test on a memory of its own. It begins unsound: only Start mends it.
-struct Lent<E> {
-    engine: E,
-    memory: Vec<u8>,
-}
-
-impl<E: Engine> Lent<E> {
-    /// The bytes of an accepted call's answer.
-    fn answer(&mut self, call: Call) -> Result<Vec<u8>, Refusal> {
-        let mut answer = vec![0xa5; call.answer_length()];
-        match self.engine.call(&call, &mut self.memory, &mut answer) {
-            0 => Ok(answer),
-            number => Err(Refusal::from_number(number).unwrap()),
-        }
-    }
-
-    fn fields<A: Fields>(&mut self, call: Call) -> Result<A, Refusal> {
-        self.answer(call).map(|answer| A::of(&answer_fields(&answer).collect::<Vec<_>>()).unwrap())
-    }
-}
-
-impl<E: Engine> Calls for Lent<E> {
-    fn start(&mut self) {
-        self.fields(Call::Start).unwrap()
-    }
-
-    fn open(&mut self, weight: u32) -> Result<Opened, Refusal> {
-        self.fields(Call::Open { weight })
-    }
-
-    fn put(&mut self, slot: u32, ticket: u32, length: u32, reference: u32) -> Result<Added, Refusal> {
-        self.fields(Call::Put { slot, ticket, length, reference })
-    }
-
-    fn close(&mut self, slot: u32, ticket: u32) -> Result<Closed, Refusal> {
-        self.fields(Call::Close { slot, ticket })
-    }
-
-    fn next(&mut self) -> Result<Sent, Refusal> {
-        self.fields(Call::Next)
-    }
-
-    fn term(&mut self, order: u32, position: u32) -> Result<u32, Refusal> {
-        self.answer(Call::Term { order, position }).map(|answer| u32::from_le_bytes(answer.try_into().unwrap()))
-    }
-
-    fn lead(&mut self, w1: u32, v1: u32, w2: u32, v2: u32) -> Result<i64, Refusal> {
-        self.answer(Call::Lead { w1, v1, w2, v2 }).map(|answer| i64::from_le_bytes(answer.try_into().unwrap()))
-    }
-}
-
-/// A check on both.
-fn on_both(check: fn(&mut dyn Calls)) {
-    check(&mut Scheduler::start());
-    check(&mut Lent { engine: common::engine(), memory: vec![0xa5; LENGTH] });
-}
+use host::spread::{sequence, term};
 
 #[test]
 fn checks_1_to_4_terms() {
@@ -134,8 +23,8 @@ fn checks_1_to_4_terms() {
 
 #[test]
 fn check_5_weights_1_4_8_3() {
-    on_both(|calls| {
-        calls.fill(&[1, 4, 8, 3], 16, 1_014);
+    in_both_editions(|calls, edition| {
+        calls.fill(edition, &[1, 4, 8, 3], 16, 1_014);
         let slots: Vec<u32> = (0..16).map(|_| calls.next().unwrap().slot).collect();
         assert_eq!(slots, [2, 1, 2, 3, 2, 1, 2, 0, 3, 2, 1, 2, 3, 2, 1, 2]);
     });
@@ -143,8 +32,8 @@ fn check_5_weights_1_4_8_3() {
 
 #[test]
 fn check_6_terms_taken() {
-    on_both(|calls| {
-        calls.fill(&[9], 3, 1_014);
+    in_both_editions(|calls, edition| {
+        calls.fill(edition, &[9], 3, 1_014);
         let terms: Vec<u32> = (0..3).map(|_| calls.next().unwrap().terms).collect();
         assert_eq!(terms, [1, 2, 2]);
     });
@@ -152,9 +41,9 @@ fn check_6_terms_taken() {
 
 #[test]
 fn check_7_one_visit() {
-    on_both(|calls| {
+    in_both_editions(|calls, edition| {
         for weight in [1, 9, 4_095] {
-            calls.fill(&[weight], 3, 300);
+            calls.fill(edition, &[weight], 3, 300);
             let starts: Vec<bool> = (0..3).map(|_| calls.next().unwrap().started).collect();
             assert_eq!(starts, [true, false, false]);
         }
@@ -163,8 +52,8 @@ fn check_7_one_visit() {
 
 #[test]
 fn check_8_weights() {
-    on_both(|calls| {
-        calls.start();
+    in_both_editions(|calls, edition| {
+        calls.start(edition as u32).unwrap();
         assert_eq!(calls.open(4_095), Ok(Opened { slot: 0, ticket: 1 }));
         assert_eq!(calls.open(4_096), Err(Refusal::BadWeight));
         assert_eq!(calls.open(0), Err(Refusal::BadWeight));
@@ -173,8 +62,8 @@ fn check_8_weights() {
 
 #[test]
 fn check_9_lengths() {
-    on_both(|calls| {
-        calls.fill(&[1], 0, 0);
+    in_both_editions(|calls, edition| {
+        calls.fill(edition, &[1], 0, 0);
         assert_eq!(calls.put(0, 1, 1_014, 7), Ok(Added { serial: 0, waiting: 1 }));
         assert_eq!(calls.put(0, 1, 1_015, 7), Err(Refusal::BadLength));
         assert_eq!(calls.put(0, 1, 0, 7), Err(Refusal::BadLength));
@@ -183,8 +72,8 @@ fn check_9_lengths() {
 
 #[test]
 fn check_10_the_17th_record() {
-    on_both(|calls| {
-        calls.fill(&[1], 15, 1);
+    in_both_editions(|calls, edition| {
+        calls.fill(edition, &[1], 15, 1);
         assert_eq!(calls.put(0, 1, 1, 7), Ok(Added { serial: 15, waiting: 16 }));
         assert_eq!(calls.put(0, 1, 1, 7), Err(Refusal::Full));
     });
@@ -204,8 +93,8 @@ fn check_11_leads() {
 
 #[test]
 fn check_12_the_65th_open() {
-    on_both(|calls| {
-        calls.fill(&[1; 64], 0, 0);
+    in_both_editions(|calls, edition| {
+        calls.fill(edition, &[1; 64], 0, 0);
         assert_eq!(calls.open(1), Err(Refusal::NoneFree));
         assert_eq!(calls.open(0), Err(Refusal::BadWeight));
         assert_eq!(calls.close(17, 1), Ok(Closed::Freed));
@@ -235,7 +124,7 @@ fn the_sequence() {
 
 #[test]
 fn an_unsound_state_is_refused_before_all_else() {
-    let mut scheduler = Scheduler::start();
+    let mut scheduler = Scheduler::fresh(1);
     scheduler.order = 1;
     assert_eq!(scheduler.open(0), Err(Refusal::Unsound));
     assert_eq!(scheduler.put(64, 0, 0, 0), Err(Refusal::Unsound));
@@ -247,7 +136,7 @@ fn an_unsound_state_is_refused_before_all_else() {
 #[test]
 fn the_order_falls_with_slots_still_to_visit() {
     // The first row leaves at the fourth send: order 3 becomes 2 and P 4 becomes 0, with slot 2 still listed.
-    let mut scheduler = Scheduler::start();
+    let mut scheduler = Scheduler::fresh(1);
     for (weight, records) in [(5, 3), (2, 5), (1, 5)] {
         let opened = scheduler.open(weight).unwrap();
         for reference in 0..records {

@@ -13,7 +13,7 @@ use rattle::{functions, source};
 
 /// Each entry with a call of its kind.
 const ENTRIES: [(&str, Call); 8] = [
-    ("uplink_start", Call::Start),
+    ("uplink_start", Call::Start { edition: 0 }),
     ("uplink_open", Call::Open { weight: 0 }),
     ("uplink_put", Call::Put { slot: 0, ticket: 0, length: 0, reference: 0 }),
     ("uplink_close", Call::Close { slot: 0, ticket: 0 }),
@@ -55,8 +55,8 @@ impl Exchanged {
 }
 
 impl Engine for Exchanged {
-    fn start(&mut self, state: &mut [u8]) -> u32 {
-        self.made(Call::Start, state, &mut [])
+    fn start(&mut self, state: &mut [u8], edition: u32) -> u32 {
+        self.made(Call::Start { edition }, state, &mut [])
     }
 
     fn open(&mut self, state: &mut [u8], weight: u32, answer: &mut [u8]) -> u32 {

@@ -145,13 +145,13 @@ fn limits() -> Numbers {
 
 /// The lengths, of those up to 64 bytes, of the answer buffers that the engine under test takes for a call.
 fn taken(call: Call) -> Vec<u64> {
-    let takes = |length: &usize| common::engine().call(&call, &mut fresh(), &mut vec![0; *length]) != Refusal::Unsound.number();
+    let takes = |length: &usize| common::engine().call(&call, &mut fresh(1), &mut vec![0; *length]) != Refusal::Unsound.number();
     (0..=64).filter(takes).map(|length| length as u64).collect()
 }
 
 /// The one length that is taken of those up to 10,000 bytes of state.
 fn state_length() -> u64 {
-    let taken: Vec<usize> = (0..10_000).filter(|&length| common::engine().start(&mut vec![1; length]) == 0).collect();
+    let taken: Vec<usize> = (0..10_000).filter(|&length| common::engine().start(&mut vec![1; length], 1) == 0).collect();
     assert_eq!(taken.len(), 1);
     taken[0] as u64
 }

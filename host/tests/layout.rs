@@ -1,24 +1,29 @@
 //! The lent memory: where each byte stands, writer against reader, and the two checks against each other.
 
 use host::check::record_by_record;
-use host::layout::{fresh, from_bytes, is_sound_memory, name_of, to_bytes, LENGTH, LENGTHS, TICKET, TO_VISIT};
+use host::layout::{fresh, from_bytes, is_sound_memory, name_of, to_bytes, EDITION, LENGTH, LENGTHS, TICKET, TO_VISIT};
 use host::random::Random;
-use host::scheduler::Scheduler;
+use host::scheduler::{Scheduler, EDITIONS};
 use host::states;
 
 #[test]
-fn the_fresh_state_is_all_zeros() {
-    assert_eq!(fresh(), vec![0; LENGTH]);
-    assert!(is_sound_memory(&[0; LENGTH]));
-    assert!(!is_sound_memory(&[0; LENGTH - 1]));
-    assert!(!is_sound_memory(&[0; LENGTH + 1]));
+fn the_fresh_state_is_all_zeros_beside_the_edition() {
+    assert_eq!(EDITION.places(), 846..847);
+    for edition in 0..=255 {
+        let mut zeros = vec![0; LENGTH];
+        zeros[846] = edition;
+        assert_eq!(fresh(u64::from(edition)), zeros);
+        assert_eq!(is_sound_memory(&zeros), [1, 2].contains(&edition), "{edition}");
+        assert!(!is_sound_memory(&zeros[..LENGTH - 1]));
+        assert!(!is_sound_memory(&[&zeros[..], &[0]].concat()));
+    }
     assert!(!is_sound_memory(&[]));
 }
 
 /// Every byte of a small state, written down by hand from the layout page.
 #[test]
 fn a_state_by_hand() {
-    let mut scheduler = Scheduler::start();
+    let mut scheduler = Scheduler::fresh(2);
     scheduler.channels[2] = states::channel(host::scheduler::Kind::Closing, 0x0102_0304, 0x0a0b, 0x0102, 0xfffe, &[0x0102, 0x0304]);
     scheduler.channels[5] = states::channel(host::scheduler::Kind::Open, 7, 0x0001, 0x0203, 9, &[0x0005]);
     scheduler.channels[2].records[0].reference = 0x1122_3344;
@@ -41,7 +46,7 @@ fn a_state_by_hand() {
         (450, 0x0b), (514, 0x0a), (453, 1),
         (578, 2), (642, 1), (581, 3), (645, 2),
         (706, 0xfe), (770, 0xff), (709, 9),
-        (832, 2), (833, 12), (834, 0x89), (835, 0x07), (837, 4), (845, 6),
+        (832, 2), (833, 12), (834, 0x89), (835, 0x07), (837, 4), (845, 6), (846, 2),
         (896, 2), (897, 4), (898, 5), (1_920, 1), (1_921, 3),
         (2_944, 0x44), (2_945, 0x88), (2_946, 0xcc),
         (3_968, 0x33), (3_969, 0x77), (3_970, 0xbb),
@@ -57,7 +62,7 @@ fn a_state_by_hand() {
 
 #[test]
 fn slots_to_visit_are_bits_of_one_number() {
-    let mut scheduler = Scheduler::start();
+    let mut scheduler = Scheduler::fresh(1);
     scheduler.scan.to_visit = [0, 9, 63].into();
     let bytes = to_bytes(&scheduler);
     assert_eq!(&bytes[TO_VISIT.places()], [1, 2, 0, 0, 0, 0, 0, 128]);
@@ -67,7 +72,8 @@ fn slots_to_visit_are_bits_of_one_number() {
 fn each_byte_has_a_name() {
     assert_eq!(name_of(0), "rows, lane 0, byte 0");
     assert_eq!(name_of(192 + 64 + 3), "ticket, lane 3, byte 1");
-    assert_eq!(name_of(895), "nothing, lane 49, byte 0");
+    assert_eq!((name_of(846), name_of(847)), ("edition, lane 0, byte 0".to_string(), "nothing, lane 0, byte 0".to_string()));
+    assert_eq!(name_of(895), "nothing, lane 48, byte 0");
     assert_eq!(name_of(LENGTH - 1), "reference, lane 1023, byte 3");
     assert!((0..LENGTH).all(|place| name_of(place) != name_of(LENGTH)));
 }
@@ -77,7 +83,7 @@ fn sound_states_round_trip() {
     let mut random = Random::new(11);
     for round in 0..2_000 {
         let most = random.pick(&[1, 4, 30, 64]);
-        let scheduler = states::any_sound(&mut random, most);
+        let scheduler = states::any_sound(&mut random, 1 + round % 2, most);
         assert_eq!(scheduler.broken(), [], "round {round}");
         let bytes = to_bytes(&scheduler);
         assert_eq!(from_bytes(&bytes).as_ref(), Some(&scheduler));
@@ -91,8 +97,8 @@ fn damaged_memories_decode_or_not() {
     let mut random = Random::new(12);
     let (mut sound, mut unsound, mut nothing) = (0, 0, 0);
     for _ in 0..30_000 {
-        let most = random.pick(&[1, 4, 64]);
-        let mut bytes = to_bytes(&states::any_sound(&mut random, most));
+        let (most, edition) = (random.pick(&[1, 4, 64]), random.pick(&EDITIONS));
+        let mut bytes = to_bytes(&states::any_sound(&mut random, edition, most));
         for _ in 0..random.from_to(1, 3) {
             let end = random.pick(&[TICKET.start, LENGTHS.start, LENGTHS.start, LENGTH]);
             let place = random.below(end as u64) as usize;
@@ -118,7 +124,8 @@ fn damaged_memories_decode_or_not() {
 fn random_bytes_do_not_stop_the_reader() {
     let mut random = Random::new(13);
     for _ in 0..2_000 {
-        let bytes: Vec<u8> = (0..LENGTH).map(|_| if random.chance(1, 40) { random.number() as u8 } else { 0 }).collect();
+        let mut bytes: Vec<u8> = (0..LENGTH).map(|_| if random.chance(1, 40) { random.number() as u8 } else { 0 }).collect();
+        bytes[EDITION.start] = random.pick(&[0, 1, 2]);
         assert_eq!(record_by_record(&bytes), is_sound_memory(&bytes));
     }
 }

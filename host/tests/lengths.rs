@@ -6,10 +6,14 @@ use host::compare::run_all;
 use host::damage::breakages;
 use host::history::{Call, History, Step};
 use host::layout::{to_bytes, LENGTH, LENGTHS};
+use host::scheduler::EDITIONS;
 use host::states;
 
-const CALLS: [Call; 12] = [
-    Call::Start,
+const CALLS: [Call; 14] = [
+    Call::Start { edition: 1 },
+    Call::Start { edition: 2 },
+    // Another length is refused before another edition is.
+    Call::Start { edition: 3 },
     Call::Open { weight: 3 },
     Call::Open { weight: 0 },
     Call::Put { slot: 1, ticket: 1, length: 5, reference: 6 },
@@ -32,7 +36,7 @@ fn compare(memory: Vec<u8>) -> u64 {
         for state_length in STATE_LENGTHS {
             for answer_length in (0..=64).chain([LENGTH]) {
                 let mislent = Step::Mislent { call, state_length, answer_length };
-                let start_accepted = call == Call::Start && state_length == LENGTH;
+                let start_accepted = matches!(call, Call::Start { edition: 1 | 2 }) && state_length == LENGTH;
                 let accepted = state_length == LENGTH && answer_length == call.answer_length();
                 // Accepted calls would change the memory for the rest; they are compared elsewhere.
                 if !start_accepted && !accepted {
@@ -50,8 +54,10 @@ fn compare(memory: Vec<u8>) -> u64 {
 
 #[test]
 fn of_a_sound_state() {
-    assert!(compare(to_bytes(&states::rich())) > 10_000);
-    assert!(compare(to_bytes(&states::full())) > 10_000);
+    for edition in EDITIONS {
+        assert!(compare(to_bytes(&states::rich(edition))) > 10_000);
+        assert!(compare(to_bytes(&states::full(edition))) > 10_000);
+    }
 }
 
 #[test]

@@ -78,7 +78,7 @@ fn costs_by_quantum_for_any_lengths() {
 #[test]
 fn weights_of_1_are_served_alike() {
     let mut random = Random::new(52);
-    let (mut scheduler, mut plain) = (Scheduler::start(), filled(&[1; 7], &[]));
+    let (mut scheduler, mut plain) = (Scheduler::fresh(1), filled(&[1; 7], &[]));
     for slot in 0..7 {
         scheduler.open(1).unwrap();
         for reference in 0..8 {

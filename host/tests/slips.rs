@@ -55,7 +55,7 @@ fn a_report_reads_as_commands() {
 fn a_silent_engine_is_found() {
     struct Silent;
     impl Engine for Silent {
-        fn start(&mut self, _: &mut [u8]) -> u32 {
+        fn start(&mut self, _: &mut [u8], _: u32) -> u32 {
             0
         }
         fn open(&mut self, _: &mut [u8], _: u32, _: &mut [u8]) -> u32 {

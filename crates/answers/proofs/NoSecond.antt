@@ -18,6 +18,7 @@ refusalOf answer.noneWaits = refusal.NoneWaits
 refusalOf answer.noRow = refusal.NoRow
 refusalOf answer.unsound = refusal.Unsound
 refusalOf answer.noTerm = refusal.NoTerm
+refusalOf answer.badEdition = refusal.BadEdition
 
 back : (r : Refusal) → refusalOf (refusalTold r) ≡ r
 unfolding refusalOf
@@ -32,6 +33,7 @@ back refusal.NoneWaits = refl
 back refusal.NoRow = refl
 back refusal.Unsound = refl
 back refusal.NoTerm = refl
+back refusal.BadEdition = refl
 
 pub refusal-told-once : (p q : Refusal) → refusalTold p ≡ refusalTold q → p ≡ q
 refusal-told-once p q e = sym (back p) ∙ ap refusalOf e ∙ back q

@@ -15,3 +15,4 @@ refusalTold refusal.NoneWaits = answer.noneWaits
 refusalTold refusal.NoRow = answer.noRow
 refusalTold refusal.Unsound = answer.unsound
 refusalTold refusal.NoTerm = answer.noTerm
+refusalTold refusal.BadEdition = answer.badEdition

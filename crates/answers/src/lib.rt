@@ -19,6 +19,7 @@ pub enum Refusal {
     NoRow,
     Unsound,
     NoTerm,
+    BadEdition,
 }
 
 // The number of a refusal, by document 01's table.
@@ -37,5 +38,6 @@ pub fn number_of(why: Refusal) -> u32
         Refusal::NoRow => 9,
         Refusal::Unsound => 10,
         Refusal::NoTerm => 11,
+        Refusal::BadEdition => 12,
     }
 }

@@ -27,12 +27,12 @@ ghost use Rattle.driver.specs.Entered.{entry, entered, stateless, startB
 
 pub mod fields; // fields.rt: numbers and fields
 
-// Makes the state fresh. It has no answer buffer.
+// Makes the state fresh, of an edition. It has no answer buffer.
 #[no_mangle]
-pub extern "C" fn uplink_start(state: &mut [u8]) -> u32
-    ensures { λ r. ⌜ entry r (now (state .exit)) [] ≡ entered 0 startBytes (startOn (now (state .entry))) (now (state .entry)) [] ⌝ }
+pub extern "C" fn uplink_start(state: &mut [u8], edition: u32) -> u32
+    ensures { λ r. ⌜ entry r (now (state .exit)) [] ≡ entered 0 startBytes (startOn edition (now (state .entry))) (now (state .entry)) [] ⌝ }
 {
-    match uplink::open::start(state) {
+    match uplink::open::start(state, edition) {
         StartAnswer::Started => 0,
         StartAnswer::Refused(why) => number_of(why),
     }

@@ -5,7 +5,7 @@ pub data Name : Type 0 where
   -- a number for each slot, or row
   rows kind waiting ticket weight deficit serial : Name
   -- one number
-  rowCount order position column mask visit : Name
+  rowCount order position column mask visit edition : Name
   -- bytes that stand for nothing
   nothing : Name
   -- a number for each waiting record
@@ -26,6 +26,7 @@ code position = 9
 code column = 10
 code mask = 11
 code visit = 12
-code nothing = 13
-code length = 14
-code reference = 15
+code edition = 13
+code nothing = 14
+code length = 15
+code reference = 16

@@ -1,40 +1,92 @@
--- From calls to their moments: what holds before a call and after it, and is left by a term and by a visit started, holds at each of the call's moments; and
--- inside a call there is no start, so a round over calls is a round over their moments.
-use Prim.Native.Nat.{ℕ, _+_, _<_}
+-- Edition 1, between calls: with the order equal after every call it is so at every moment, and inside a call there is no start, so a round over calls, as
+-- document 01 has it, is a round over their moments. (In edition 2 a round can start inside a call.)
+use Prim.Native.Nat.{ℕ, suc, _+_, _-_, _*_, _%_, _^_, _≤_, _<_}
 use mathlib.Core.Path.{_≡_, refl, sym, ap, _∙_, subst}
-use mathlib.Core.Bool.{false}
+use mathlib.Core.Bool.{Bool, false, true≢false}
 use mathlib.Core.List.{List, [], _∷_, _++_}
-use mathlib.Core.Option.{none, some}
+use mathlib.Core.Logic.{_⊎_, inl, inr}
+use mathlib.Core.Option.{none}
 use native.Mathlib.Nat.{add-zero, add-assoc}
-use lib.ListN.{length, set}
-use Rattle.lists.proofs.SlotsLaws.{if-eq}
+use native.Mathlib.Omega.{arith}
+use lib.Dec.{eqb}
+use Rattle.bits.proofs.BitLaws.{parity}
 use Rattle.lists.specs.Tests.{isEmpty}
-use Rattle.rules.specs.State.{State, at}
-use Rattle.rules.specs.Reply.{after}
-use Rattle.rules.specs.Next.{termTaken, granting, visitStarted, Chosen, nextCall}
-use Rattle.rules.specs.Calls.{Call, step, AllInRange}
-use Rattle.rules.specs.Facts.{Sound}
+use Rattle.spread.proofs.Visits.{even-next}
+use Rattle.rules.specs.Numbers.{holding}
+use Rattle.rules.specs.State.{State, fresh, held}
+use Rattle.rules.specs.Next.{nextPosition, termTaken, Chosen}
+use Rattle.rules.specs.Calls.{Call, step, run, AllInRange}
+use Rattle.rules.specs.Facts.{Stage, afterGrant, SoundTo, Sound}
 use Rattle.rules.proofs.Cases.{none-some}
-use Rattle.rules.proofs.Channels.{at-same, at-other}
-use Rattle.rules.proofs.Rows.{visit-lt}
-use Rattle.rules.proofs.Steps.{term-kept, start-kept}
+use Rattle.rules.proofs.Rows.{rows-order-least, order-least}
+use Rattle.rules.proofs.Steps.{term-position}
+use Rattle.rules.proofs.Choosing.{rowsOrder, foundAt, multiple-filled}
 use Rattle.rules.proofs.Kept.{step-kept}
-use Rattle.promises.specs.Moments.{Moment, aSend, moved, movedBy, chooseMoments, momentsOf, momentsAlong, sentAt, momentsTotal}
-use Rattle.promises.specs.Rounds.{Starts, Waits, MomentsThroughout, MomentsWithin, MomentsRound, counted, oneSent, Throughout, WithinRound, Round}
-use Rattle.promises.proofs.Lawful.{moved-visit, moved-append}
-use Rattle.promises.proofs.NextMoments.{ScannedBy, first-visit, term-first, ChosenBy, in-visit, by-scan, chosen-by}
-use Rattle.promises.proofs.Made.{chosen-leads, next-leads, Made, unserved, serving, other, made, moments-lead, moments-along}
+use Rattle.promises.specs.Moments.{Moment, aSend, moved, movedBy, momentsOf, momentsAlong, sentAt, momentsTotal}
+use Rattle.promises.specs.Rounds.{StartsAt, Starts, Waits, MomentsBefore, MomentsThroughout, Steady, MomentsWithin, MomentsRound, counted, oneSent, Throughout, WithinRound, Round}
+use Rattle.promises.proofs.Lawful.{moved-send, moved-kept, term-rest}
+use Rattle.promises.proofs.EachCall.{OtherCall, quiet, afresh, other-call}
+use Rattle.promises.proofs.NextMoments.{EndedBy, going-on, round-end, ScannedBy, first-visit, term-first, last-term, ChosenBy, in-visit, by-scan}
+use Rattle.promises.proofs.Made.{chosen-leads, Made, unserved, serving, other, made, moments-lead, moments-along}
 use Rattle.promises.proofs.Counts.{sends-same, made-total, calls-total}
-use Rattle.promises.proofs.Positions.{term-inside}
-use Rattle.promises.proofs.Rounds.{at-last}
+use Rattle.promises.proofs.Positions.{over-inside, settled-edition}
+use Rattle.promises.proofs.EveryMoment.{at-start, throughout-map, Stable, calls-throughout, calls-steady}
 
--- ---- lists of moments
+-- ---- the edition stays
 
-throughout-append : (P : State → Type 0) (xs ys : List Moment) (s : State) → MomentsThroughout P s xs → MomentsThroughout P (movedBy s xs) ys
-    → MomentsThroughout P s (xs ++ ys)
-unfolding MomentsThroughout movedBy
-throughout-append P [] ys s a b = b
-throughout-append P (m ∷ xs) ys s a b = (a .0, throughout-append P xs ys (moved s m) (a .1) b)
+ended-edition : {s s′ : State} {ms : List Moment} → EndedBy s s′ ms → s′ .edition ≡ s .edition
+ended-edition (going-on e) = refl
+ended-edition (round-end o) = refl
+
+-- but for a Start, which leaves order 0
+made-edition : {s s′ : State} {c : Call} {ms : List Moment} → Sound s → Made s c s′ ms → (s′ .edition ≡ s .edition) ⊎ (s′ .order ≡ 0)
+unfolding fresh
+made-edition S (unserved q) = inl refl
+made-edition S (serving e N C E) =
+    let x = N .chosen in
+    inl
+    (ended-edition E ∙ ap (λ (r : State). r .edition) (moved-send (x .state) (x .slot) (N .head) (N .rest) (N .choice .visit) (N .still))
+    ∙ settled-edition (N .rest) (x .state) (x .slot) _ ∙ N .choice .edition)
+made-edition {s} S (other {c} n) = go (other-call S c n)
+  where
+    go : OtherCall s (step s c) → (step s c .edition ≡ s .edition) ⊎ (step s c .order ≡ 0)
+    go (quiet ed sc alone) = inl ed
+    go (afresh e E q) = inr (rw q refl)
+
+-- the order is k, and with rows it is edition 1
+record Falls (k : ℕ) (s : State) : Type 0 where
+  order-is : s .order ≡ k
+  falls : 1 ≤ k → held s ≡ false
+
+call-falls : {k : ℕ} (c : Call) {s : State} → Sound s → Falls k s → step s c .order ≡ k → Falls k (step s c)
+call-falls {k} c {s} S F o = record { order-is = o; falls = λ l. go l (made-edition S (made S c)) }
+  where
+    go : 1 ≤ k → (step s c .edition ≡ s .edition) ⊎ (step s c .order ≡ 0) → held (step s c) ≡ false
+    go l (inl e) = ap (λ (n : ℕ). eqb n holding) e ∙ F .falls l
+    go l (inr z) = absurd (omega arith)
+
+calls-fall : {k : ℕ} (cs : List Call) {s : State} → AllInRange cs → Sound s → Falls k s → Throughout (λ r. r .order ≡ k) s cs → Throughout (Falls k) s cs
+unfolding Throughout
+calls-fall [] f S F o = F
+calls-fall {k} (c ∷ cs) f S F o = (F, calls-fall cs (f .1) (step-kept c (f .0) S) (call-falls c S F (at-start (λ r. r .order ≡ k) cs (o .1))) (o .1))
+
+-- ---- the order at every moment
+
+falls-stable : (k : ℕ) → Stable (Falls k)
+falls-stable k =
+    record {
+      by-term = λ s F. record { order-is = F .order-is; falls = F .falls };
+      by-end = λ {s} T o F. absurd (true≢false (sym (o .held-there) ∙ F .falls (let l = order-least T (o .rows) in let q = F .order-is in omega arith)));
+      from-end = λ {s} T o F. absurd (true≢false (sym (o .held-there) ∙ F .falls (rw (← F .order-is) (rows-order-least T (o .rows)))));
+      by-visit = λ S j rest v t F. record { order-is = F .order-is; falls = F .falls };
+    }
+
+before-order : (k : ℕ) (ms : List Moment) (s : State) → MomentsBefore (Falls k) s ms → MomentsBefore (λ r. r .order ≡ k) s ms
+unfolding MomentsBefore
+before-order k [] s a = tt
+before-order k (m ∷ ms) s a = (a .0 .order-is, before-order k ms (moved s m) (a .1))
+
+-- ---- rounds
 
 within-append : (n : ℕ) (xs ys : List Moment) (s : State) → MomentsWithin n s xs → MomentsWithin (n + momentsTotal sentAt s xs) (movedBy s xs) ys
     → MomentsWithin n s (xs ++ ys)
@@ -43,106 +95,93 @@ within-append n [] ys s a b = rw (add-zero n) at b
 within-append n (m ∷ xs) ys s a b =
     (a .0, within-append (n + sentAt s m) xs ys (moved s m) (a .1) (rw (add-assoc n (sentAt s m) (momentsTotal sentAt (moved s m) xs)) b))
 
--- ---- what holds after every call
+-- a term taken is at no start: at the last position, an odd one, the highest column is scanned
+term-inside : {b : Stage} {s : State} → SoundTo b s → isEmpty (s .rows) ≡ false → held s ≡ false → Starts (termTaken s) → ⊥
+term-inside {b} {s} S e g B =
+    go (nextPosition (s .order) (s .scan .position)) refl (subst (λ (h : Bool). StartsAt h (s .order) (termTaken s .scan .position)) g (B .at-end))
+    (parity (nextPosition (s .order) (s .scan .position))) (term-position S e)
+  where
+    odd-filled : (p : ℕ) → p % 2 ≡ 1 → isEmpty (foundAt s p) ≡ false
+    odd-filled p odd =
+        let full : s .order ≡ rowsOrder s = S .order-is (rw g refl) in
+        let z : s .order - rowsOrder s ≡ 0 = omega arith in
+        let one : p * 2 ^ 0 ≡ p = omega arith in
+        rw (z, one) at (multiple-filled S e p odd)
 
--- a term taken and a visit started leave it
-pub record Stable (P : State → Type 0) : Type 0 where
-  pub by-term : (s : State) → P s → P (termTaken s)
-  pub by-visit : {s : State} → Sound s → (j : ℕ) (rest : List ℕ) → s .scan .visit ≡ none → s .scan .toVisit ≡ j ∷ rest → P s → P (visitStarted s j rest)
+    go : (p : ℕ) → nextPosition (s .order) (s .scan .position) ≡ p → (p ≡ 0) ⊎ (suc p ≡ 2 ^ s .order) → (p % 2 ≡ 0) ⊎ (p % 2 ≡ 1)
+        → (1 ≤ p) × (p < 2 ^ s .order) → ⊥
+    go p q (inl z) c l = omega arith
+    go p q (inr z) (inl even) l = omega (arith, even-next (s .order) p (order-least S e) (l .1) even)
+    go p q (inr z) (inr odd) l = true≢false (sym (ap isEmpty (B .none-remain)) ∙ rw q (odd-filled p odd))
 
-module _ {P : State → Type 0} (K : Stable P) where
-  scanned-throughout : {s : State} {x : Chosen} {ms : List Moment} → Sound s → s .scan .visit ≡ none → isEmpty (s .rows) ≡ false → ScannedBy x s ms → P s
-      → MomentsThroughout P s ms
-  unfolding MomentsThroughout moved
-  scanned-throughout {s} S v e (first-visit j rest t a b c) p = (p, rw (moved-visit s j rest t) (K .by-visit S j rest v t p))
-  scanned-throughout {s} S v e (term-first t later) p = (p, scanned-throughout (term-kept S v e) v e later (K .by-term s p))
-
-  chosen-throughout : {s : State} {x : Chosen} {ms : List Moment} → Sound s → isEmpty (s .rows) ≡ false → ChosenBy x s ms → P s → MomentsThroughout P s ms
-  unfolding MomentsThroughout
-  chosen-throughout S e (in-visit z same) p = p
-  chosen-throughout S e (by-scan v way) p = scanned-throughout S v e way p
-
-  made-throughout : {s s′ : State} {c : Call} {ms : List Moment} → Sound s → Made s c s′ ms → P s → P s′ → MomentsThroughout P s ms
-  unfolding MomentsThroughout movedBy moved
-  made-throughout S (unserved q) p p′ = p
-  made-throughout {s} S (serving e N) p p′ =
-      let choosing = chooseMoments (s .scan .visit) s in
-      let before : MomentsThroughout P s choosing = chosen-throughout S e (chosen-by N) p in
-      let there : moved (movedBy s choosing) aSend ≡ after s (nextCall s) = sym (moved-append choosing (aSend ∷ []) s) ∙ next-leads e N .there in
-      throughout-append P choosing (aSend ∷ []) s before (at-last P s choosing before, subst P (sym there) p′)
-  made-throughout S (other n) p p′ = (p, p′)
-
-  pub calls-throughout : (cs : List Call) {s : State} → AllInRange cs → Sound s → Throughout P s cs → MomentsThroughout P s (momentsAlong s cs)
-  unfolding Throughout momentsAlong MomentsThroughout
-  calls-throughout [] f S p = p
-  calls-throughout (c ∷ cs) {s} f S p =
-      throughout-append P (momentsOf s c) (momentsAlong (step s c) cs) s (made-throughout S (made S c) (p .0) (first cs (step s c) (p .1)))
-      (subst (λ (r : State). MomentsThroughout P r (momentsAlong (step s c) cs)) (sym (moments-lead c (f .0) S .there))
-      (calls-throughout cs (f .1) (step-kept c (f .0) S) (p .1)))
-    where
-      first : (cs : List Call) (r : State) → Throughout P r cs → P r
-      first [] r a = a
-      first (x ∷ xs) r a = a .0
-
--- the order; a record waiting; both
-
-pub order-stable : (k : ℕ) → Stable (λ s. s .order ≡ k)
-order-stable k = record { by-term = λ s o. o; by-visit = λ S j rest v t o. o }
-
-visit-waiting : {s : State} → Sound s → (i j : ℕ) (rest : List ℕ) → s .scan .visit ≡ none → s .scan .toVisit ≡ j ∷ rest
-    → at (visitStarted s j rest .channels) i .waiting ≡ at (s .channels) i .waiting
-visit-waiting {s} S i j rest v t =
-    let c = granting (at (s .channels) j) in
-    let l : j < length (s .channels) = rw (S .size) (visit-lt (start-kept S j rest v t) j refl) in
-    if-eq i j
-    (λ q. let here : at (set (s .channels) j c) i ≡ c = rw q (at-same (s .channels) j c l) in rw (here, q) refl)
-    (λ n. rw (at-other (s .channels) j i c n) refl)
-
-pub waits-stable : (k i : ℕ) → Stable (Waits k i)
-waits-stable k i =
-    record {
-      by-term = λ s w. record { order-is = w .order-is; waits = w .waits };
-      by-visit = λ S j rest v t w. record { order-is = w .order-is; waits = rw (visit-waiting S i j rest v t) (w .waits) };
-    }
-
--- ---- rounds
-
-scanned-within : {s : State} {x : Chosen} {ms : List Moment} (n : ℕ) → Sound s → s .scan .visit ≡ none → isEmpty (s .rows) ≡ false
+scanned-within : {s : State} {x : Chosen} {ms : List Moment} (n : ℕ) → Sound s → s .scan .visit ≡ none → isEmpty (s .rows) ≡ false → held s ≡ false
     → (0 < n → Starts s → ⊥) → ScannedBy x s ms → MomentsWithin n s ms
 unfolding MomentsWithin moved
-scanned-within n S v e inside (first-visit j rest t a b c) = (inside, tt)
-scanned-within n S v e inside (term-first t later) = (inside, scanned-within (n + 0) (term-kept S v e) v e (λ l. term-inside S e) later)
+scanned-within n S v e g inside (first-visit j rest t a b c) = (inside, tt)
+scanned-within n S v e g inside (term-first t o later) = (inside, scanned-within (n + 0) (term-rest S v e o) v e g (λ l. term-inside S e g) later)
+scanned-within n S v e g inside (last-term t o later) = absurd (true≢false (sym (o .held-there) ∙ g))
 
-chosen-within : {s : State} {x : Chosen} {ms : List Moment} (n : ℕ) → Sound s → isEmpty (s .rows) ≡ false → (0 < n → Starts s → ⊥) → ChosenBy x s ms
-    → MomentsWithin n s ms
+chosen-within : {s : State} {x : Chosen} {ms : List Moment} (n : ℕ) → Sound s → isEmpty (s .rows) ≡ false → held s ≡ false → (0 < n → Starts s → ⊥)
+    → ChosenBy x s ms → MomentsWithin n s ms
 unfolding MomentsWithin
-chosen-within n S e inside (in-visit z same) = tt
-chosen-within n S e inside (by-scan v way) = scanned-within n S v e inside way
+chosen-within n S e g inside (in-visit z same) = tt
+chosen-within n S e g inside (by-scan v way) = scanned-within n S v e g inside way
 
-made-within : {s s′ : State} {c : Call} {ms : List Moment} (n : ℕ) → Sound s → (0 < n → Starts s → ⊥) → Made s c s′ ms → MomentsWithin n s ms
+ended-within : {s s′ : State} {ms : List Moment} (n : ℕ) → SoundTo afterGrant s → EndedBy s s′ ms → MomentsWithin n s ms
 unfolding MomentsWithin
-made-within n S inside (unserved q) = tt
-made-within {s} n S inside (serving e N) =
-    let choosing = chooseMoments (s .scan .visit) s in
-    let v : movedBy s choosing .scan .visit ≡ some (N .chosen .slot) =
-    ap (λ (r : State). r .scan .visit) (chosen-leads e (chosen-by N) .there) ∙ N .choice .visit
-    in
-    within-append n choosing (aSend ∷ []) s (chosen-within n S e inside (chosen-by N)) (λ l B. none-some (sym (B .no-visit) ∙ v), tt)
-made-within n S inside (other x) = (inside, tt)
+ended-within n S (going-on e) = tt
+ended-within n S (round-end o) = (λ l B. over-inside S o B, tt)
 
-pub calls-within : (n : ℕ) (cs : List Call) (s : State) → AllInRange cs → Sound s → WithinRound n s cs → MomentsWithin n s (momentsAlong s cs)
-unfolding WithinRound momentsAlong MomentsWithin
-calls-within n [] s f S inside = tt
-calls-within n (c ∷ cs) s f S inside =
-    within-append n (momentsOf s c) (momentsAlong (step s c) cs) s (made-within n S (inside .0) (made S c))
-    (rw (moments-lead c (f .0) S .there, made-total sends-same (made S c))
-    (calls-within (n + counted oneSent s c) cs (step s c) (f .1) (step-kept c (f .0) S) (inside .1)))
+made-within : {k : ℕ} {s s′ : State} {c : Call} {ms : List Moment} (n : ℕ) → Sound s → Falls k s → (0 < n → Starts s → ⊥) → Made s c s′ ms → MomentsWithin n s ms
+unfolding MomentsWithin
+made-within n S F inside (unserved q) = tt
+made-within {k} {s} n S F inside (serving {choosing = choosing} {ends = ends} e N C E) =
+    let x = N .chosen in
+    let there : movedBy s choosing ≡ x .state = chosen-leads S e C .there in
+    let g : held s ≡ false = F .falls (let l = order-least S e in let q = F .order-is in omega arith) in
+    let T : SoundTo afterGrant (moved (x .state) aSend) = moved-kept aSend (x .slot, N .head, N .rest, N .choice .visit, N .still) (N .choice .sound) in
+    within-append n choosing (aSend ∷ ends) s (chosen-within n S e g inside C)
+    (rw there (λ l B. none-some (sym (B .no-visit) ∙ N .choice .visit), ended-within _ T E))
+made-within n S F inside (other x) = (inside, tt)
 
-pub calls-round : {s : State} {cs : List Call} → AllInRange cs → Sound s → Round s cs → MomentsRound s (momentsAlong s cs)
-calls-round {s} {cs} f S R =
-    record {
-      starts = R .starts;
-      within = calls-within 0 cs s f S (R .within);
-      sent = rw (calls-total sends-same cs s f S) (R .sent);
-      ends = subst Starts (sym (moments-along cs f S .there)) (R .ends);
-    }
+along-within : (k n : ℕ) (cs : List Call) (s : State) → AllInRange cs → Sound s → Throughout (Falls k) s cs → WithinRound n s cs
+    → MomentsWithin n s (momentsAlong s cs)
+unfolding Throughout WithinRound momentsAlong MomentsWithin
+along-within k n [] s f S F inside = tt
+along-within k n (c ∷ cs) s f S F inside =
+    within-append n (momentsOf s c) (momentsAlong (step s c) cs) s (made-within n S (F .0) (inside .0) (made S c))
+    (rw (moments-lead c (f .0) S .there, made-total sends-same S (made S c))
+    (along-within k (n + counted oneSent s c) cs (step s c) (f .1) (step-kept c (f .0) S) (F .1) (inside .1)))
+
+-- ---- calls from a state of edition 1, with the order equal throughout
+
+module _ (k : ℕ) (s : State) (cs : List Call) (S : Sound s) (f : AllInRange cs) (g : held s ≡ false) (o : Throughout (λ r. r .order ≡ k) s cs) where
+  fall : Throughout (Falls k) s cs
+  fall = calls-fall cs f S (record { order-is = at-start (λ r. r .order ≡ k) cs o; falls = λ l. g }) o
+
+  pub calls-order : MomentsThroughout (λ r. r .order ≡ k) s (momentsAlong s cs)
+  calls-order =
+      let a = calls-throughout (falls-stable k) cs f S fall in
+      (before-order k (momentsAlong s cs) s (a .0), a .1 .order-is)
+
+  pub calls-within : WithinRound 0 s cs → MomentsWithin 0 s (momentsAlong s cs)
+  calls-within inside = along-within k 0 cs s f S fall inside
+
+  pub calls-round : Round s cs → MomentsRound s (momentsAlong s cs)
+  calls-round R =
+      record {
+        starts = R .starts;
+        within = calls-within (R .within);
+        sent = rw (calls-total sends-same cs s f S) (R .sent);
+        ends = subst Starts (sym (moments-along cs f S .there)) (R .ends);
+      }
+
+-- a channel that waits with the order equal after every call waits through the round
+pub waits-order : (k i : ℕ) (s : State) (cs : List Call) → Throughout (Waits k i) s cs → Throughout (λ r. r .order ≡ k) s cs
+waits-order k i s cs w = throughout-map (λ r x. x .order-is) cs s w
+
+pub waits-steady : (k i : ℕ) (s : State) (cs : List Call) → Sound s → AllInRange cs → held s ≡ false → Throughout (Waits k i) s cs → Steady k i s (momentsAlong s cs)
+waits-steady k i s cs S f g w =
+    let o = calls-order k s cs S f g (waits-order k i s cs w) in
+    let there : movedBy s (momentsAlong s cs) ≡ run s cs = moments-along cs f S .there in
+    calls-steady k i cs f S (throughout-map (λ r x. x .waits) cs s w) (o .0) (λ h. subst (λ (r : State). r .order ≡ k) there (o .1))

@@ -1,5 +1,5 @@
--- What a call is to a round: Next, or a call that sends nothing and leaves the scan point, and the weight and deficit of each slot that waits, alone, or
--- Start. Of the files on rounds this is the one that goes by which call it is.
+-- What a call is to a round: Next, or a call that sends nothing and leaves the edition, the scan point, and the weight and deficit of each slot that waits,
+-- alone, or a Start that is taken. Of the files on rounds this is the one that goes by which call it is.
 use Prim.Native.Nat.{ℕ}
 use mathlib.Core.Path.{_≡_, refl, sym, _∙_}
 use mathlib.Core.Bool.{true, false, true≢false, false≢true}
@@ -10,9 +10,10 @@ use Rattle.answers.specs.Answer.{noneWaits, refused, given}
 use Rattle.rules.specs.State.{State, fresh, at}
 use Rattle.rules.specs.Reply.{Done, after}
 use Rattle.rules.specs.Next.{Sent, nextCall}
-use Rattle.rules.specs.Calls.{openCall, putCall, closeCall, askCall, startCall, Call, toOpen, toPut, toClose, toNext, toStart, toAsk, openFields, putFields, closeFields, nextFields, askFields, reply, step}
-use Rattle.rules.specs.Facts.{Sound}
+use Rattle.rules.specs.Calls.{openCall, putCall, closeCall, askCall, startCall, Call, toOpen, toPut, toClose, toNext, toStart, toAsk, openFields, putFields, closeFields, nextFields, startFields, askFields, reply, step}
+use Rattle.rules.specs.Facts.{Edition, Sound}
 use Rattle.rules.proofs.Cases.{by-answer, after-under, only-next}
+use Rattle.rules.proofs.Accepted.{start-taken}
 use Rattle.rules.proofs.Frames.{OpenLeaves, open-leaves, PutLeaves, put-leaves, CloseLeaves, close-leaves, ask-leaves}
 use Rattle.promises.specs.Moments.{isNext}
 use Rattle.promises.specs.Rounds.{Waiting, counted}
@@ -25,7 +26,7 @@ is-next (toOpen w) e = absurd (false≢true e)
 is-next (toPut i t n r) e = absurd (false≢true e)
 is-next (toClose i t) e = absurd (false≢true e)
 is-next toNext e = refl
-is-next toStart e = absurd (false≢true e)
+is-next (toStart x) e = absurd (false≢true e)
 is-next (toAsk i t) e = absurd (false≢true e)
 
 pub step-next : (s : State) → step s toNext ≡ after s (nextCall s)
@@ -51,8 +52,8 @@ pub record Alone (i : ℕ) (s s′ : State) : Type 0 where
   pub deficit : at (s′ .channels) i .deficit ≡ at (s .channels) i .deficit
 
 pub data OtherCall (s s′ : State) : Type 0 where
-  quiet : s′ .scan ≡ s .scan → ((i : ℕ) → Waiting i s → Alone i s s′) → OtherCall s s′
-  afresh : s′ ≡ fresh → OtherCall s s′
+  quiet : s′ .edition ≡ s .edition → s′ .scan ≡ s .scan → ((i : ℕ) → Waiting i s → Alone i s s′) → OtherCall s s′
+  afresh : (e : ℕ) → Edition e → s′ ≡ fresh e → OtherCall s s′
 
 alone-refl : (i : ℕ) (s : State) → Alone i s s
 alone-refl i s = record { weight = refl; deficit = refl }
@@ -61,7 +62,7 @@ alone-same : {i : ℕ} {s s′ : State} → at (s′ .channels) i ≡ at (s .cha
 alone-same e = record { weight = rw e refl; deficit = rw e refl }
 
 still : {s s′ : State} → s′ ≡ s → OtherCall s s′
-still {s} e = rw e (quiet refl (λ i h. alone-refl i s))
+still {s} e = rw e (quiet refl refl (λ i h. alone-refl i s))
 
 module _ {s : State} (S : Sound s) where
   -- Open takes a slot that is no row
@@ -70,7 +71,7 @@ module _ {s : State} (S : Sound s) where
       by-answer (OtherCall s) s (openCall w s) (still refl)
       (λ d e.
       let L : OpenLeaves w s d = open-leaves S e in
-      quiet (L .around .scan)
+      quiet (L .around .edition) (L .around .scan)
       (λ i h.
       let m : occurs i (s .rows) ≡ 1 = waits-row S i h in
       alone-same (L .others i (λ q. let z : occurs i (s .rows) ≡ 0 = rw q (L .no-row) in omega arith))))
@@ -81,7 +82,7 @@ module _ {s : State} (S : Sound s) where
       by-answer (OtherCall s) s (putCall j t n r s) (still refl)
       (λ d e.
       let L : PutLeaves j t n r s d = put-leaves S e in
-      quiet (L .scan)
+      quiet (L .edition) (L .scan)
       (λ i h. if-eq i j (λ q. rw q (record { weight = rw (L .own) refl; deficit = rw (L .own) refl })) (λ m. alone-same (L .others i m))))
 
   close-other : (j t : ℕ) → OtherCall s (after s (closeCall j t s))
@@ -89,17 +90,21 @@ module _ {s : State} (S : Sound s) where
       by-answer (OtherCall s) s (closeCall j t s) (still refl)
       (λ d e.
       let L : CloseLeaves j t s d = close-leaves S e in
-      quiet (L .around .scan)
+      quiet (L .around .edition) (L .around .scan)
       (λ i h.
       if-eq i j
       (λ q. let g = L .drains (rw (sym q) h) .1 in rw q (record { weight = rw g refl; deficit = rw g refl }))
       (λ m. alone-same (L .others i m))))
 
+  start-other : (e : ℕ) → OtherCall s (after s (startCall e s))
+  start-other e =
+      by-answer (OtherCall s) s (startCall e s) (still refl) (λ d q. let T = start-taken e s q in afresh e (T .0) (T .1))
+
   pub other-call : (c : Call) → isNext c ≡ false → OtherCall s (step s c)
-  unfolding step reply startCall
+  unfolding step reply
   other-call (toOpen w) n = rw (after-under openFields s (openCall w s)) (open-other w)
   other-call (toPut j t k r) n = rw (after-under putFields s (putCall j t k r s)) (put-other j t k r)
   other-call (toClose j t) n = rw (after-under closeFields s (closeCall j t s)) (close-other j t)
   other-call toNext n = absurd (true≢false n)
-  other-call toStart n = afresh refl
+  other-call (toStart e) n = rw (after-under startFields s (startCall e s)) (start-other e)
   other-call (toAsk j t) n = still (after-under askFields s (askCall j t s) ∙ ask-leaves j t s)

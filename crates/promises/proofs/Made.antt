@@ -1,4 +1,5 @@
--- What calls are made of: their moments are lawful and lead to what the calls leave. A Next chooses and sends; any other call is one moment.
+-- What calls are made of: their moments are lawful and lead to what the calls leave. A Next chooses and sends, and the round may be over then; any other call
+-- is one moment.
 use mathlib.Core.Path.{_≡_, refl, sym, ap, _∙_, subst}
 use mathlib.Core.Bool.{Bool, true, false, cond}
 use mathlib.Core.List.{List, [], _∷_, _++_}
@@ -7,15 +8,16 @@ use Rattle.lists.specs.Tests.{isEmpty}
 use Rattle.answers.specs.Answer.{noneWaits, refused}
 use Rattle.rules.specs.State.{State, at}
 use Rattle.rules.specs.Reply.{after}
-use Rattle.rules.specs.Next.{paying, settled, Chosen, nextCall}
+use Rattle.rules.specs.Next.{endingRound, paying, settled, Chosen, nextCall}
 use Rattle.rules.specs.Calls.{Call, toNext, step, run, InRange, AllInRange}
 use Rattle.rules.specs.Facts.{Sound}
 use Rattle.rules.proofs.Served.{Served, served, eight}
+use Rattle.rules.proofs.Steps.{term-kept, ended-kept}
 use Rattle.rules.proofs.Kept.{step-kept}
-use Rattle.promises.specs.Moments.{Moment, aTerm, aVisit, aSend, aCall, moved, movedBy, chooseMoments, nextMoments, isNext, momentsOf, momentsAlong}
+use Rattle.promises.specs.Moments.{Moment, aTerm, anEnd, aVisit, aSend, aCall, moved, movedBy, endOf, chooseMoments, nextMoments, isNext, momentsOf, momentsAlong}
 use Rattle.promises.proofs.EachCall.{is-next, step-next}
-use Rattle.promises.proofs.Lawful.{Can, Lawful, moved-visit, moved-send, moved-append, lawful-append}
-use Rattle.promises.proofs.NextMoments.{ScannedBy, first-visit, term-first, ChosenBy, in-visit, by-scan, chosen-by}
+use Rattle.promises.proofs.Lawful.{Can, Lawful, moved-visit, moved-send, term-rest, moved-append, lawful-append}
+use Rattle.promises.proofs.NextMoments.{EndedBy, going-on, round-end, ended-by, ScannedBy, first-visit, term-first, last-term, ChosenBy, in-visit, by-scan, chosen-by}
 
 -- ---- these moments are lawful and lead there
 
@@ -38,31 +40,46 @@ leads-one : {s s′ : State} (m : Moment) → Can s m → moved s m ≡ s′ →
 unfolding movedBy
 leads-one m c e = record { lawful = (c, tt); there = e }
 
-scanned-leads : {s : State} {x : Chosen} {ms : List Moment} → s .scan .visit ≡ none → isEmpty (s .rows) ≡ false → ScannedBy x s ms → Leads s ms (x .state)
+-- a round's end, where there is one
+ended-leads : {s s′ : State} {ms : List Moment} → EndedBy s s′ ms → Leads s ms s′
 unfolding moved
-scanned-leads {s} v e (first-visit i rest t a b c) = leads-one aVisit (i, rest, v, t) (moved-visit s i rest t ∙ sym c)
-scanned-leads {s} v e (term-first {ms = ms} t later) = leads-append (aTerm ∷ []) ms (leads-one aTerm (v, t, e) refl) (scanned-leads v e later)
+ended-leads {s} (going-on e) = leads-none s
+ended-leads (round-end o) = leads-one anEnd o refl
 
-pub chosen-leads : {s : State} {x : Chosen} {ms : List Moment} → isEmpty (s .rows) ≡ false → ChosenBy x s ms → Leads s ms (x .state)
-chosen-leads {s} e (in-visit z same) = subst (Leads s []) (sym same) (leads-none s)
-chosen-leads e (by-scan v way) = scanned-leads v e way
+scanned-leads : {s : State} {x : Chosen} {ms : List Moment} → Sound s → s .scan .visit ≡ none → isEmpty (s .rows) ≡ false → ScannedBy x s ms
+    → Leads s ms (x .state)
+unfolding moved
+scanned-leads {s} S v e (first-visit i rest t a b c) = leads-one aVisit (i, rest, v, t) (moved-visit s i rest t ∙ sym c)
+scanned-leads S v e (term-first {ms = ms} t n later) =
+    leads-append (aTerm ∷ []) ms (leads-one aTerm (v, t, e, S .end-ok) refl) (scanned-leads (term-rest S v e n) v e later)
+scanned-leads S v e (last-term {ms = ms} t o later) =
+    leads-append (aTerm ∷ []) (anEnd ∷ ms) (leads-one aTerm (v, t, e, S .end-ok) refl)
+    (leads-append (anEnd ∷ []) ms (leads-one anEnd o refl) (scanned-leads (ended-kept (term-kept S v e) o) v e later))
 
-pub next-leads : {s : State} → isEmpty (s .rows) ≡ false → Served s → Leads s (nextMoments s) (after s (nextCall s))
-next-leads {s} e N =
-    let x = N .chosen in
-    let m : moved (x .state) aSend ≡ settled (N .rest) (x .state) (x .slot) (paying (N .head) (N .rest) (at (x .state .channels) (x .slot))) =
-    moved-send (x .state) (x .slot) (N .head) (N .rest) (N .choice .visit) (N .still)
-    in
-    leads-append (chooseMoments (s .scan .visit) s) (aSend ∷ []) (chosen-leads e (chosen-by N))
-    (leads-one aSend (x .slot, N .head, N .rest, N .choice .visit, N .still) (rw (m, N .answer) refl))
+pub chosen-leads : {s : State} {x : Chosen} {ms : List Moment} → Sound s → isEmpty (s .rows) ≡ false → ChosenBy x s ms → Leads s ms (x .state)
+chosen-leads {s} S e (in-visit z same) = subst (Leads s []) (sym same) (leads-none s)
+chosen-leads S e (by-scan v way) = scanned-leads S v e way
 
 -- ---- any call, and any list of calls
 
 -- what a call leaves, and its moments: none of a Next without rows, those of a Next that sends, one of any other call
 pub data Made (s : State) : Call → State → List Moment → Type 0 where
   unserved : nextCall s ≡ refused noneWaits → Made s toNext s []
-  serving : isEmpty (s .rows) ≡ false → (N : Served s) → Made s toNext (after s (nextCall s)) (nextMoments s)
+  serving : {s′ : State} {choosing ends : List Moment} → isEmpty (s .rows) ≡ false → (N : Served s) → ChosenBy (N .chosen) s choosing
+      → EndedBy (moved (N .chosen .state) aSend) s′ ends → Made s toNext s′ (choosing ++ aSend ∷ ends)
   other : {c : Call} → isNext c ≡ false → Made s c (step s c) (aCall c ∷ [])
+
+next-made : {s : State} → Sound s → isEmpty (s .rows) ≡ false → Served s → Made s toNext (after s (nextCall s)) (nextMoments s)
+next-made {s} S e N =
+    let x = N .chosen in
+    let choosing = chooseMoments (s .scan .visit) s in
+    let m : moved (x .state) aSend ≡ settled (N .rest) (x .state) (x .slot) (paying (N .head) (N .rest) (at (x .state .channels) (x .slot))) =
+    moved-send (x .state) (x .slot) (N .head) (N .rest) (N .choice .visit) (N .still)
+    in
+    let left : endingRound (moved (x .state) aSend) ≡ after s (nextCall s) = rw (m, N .answer) refl in
+    subst (λ (r : State). Made s toNext r (nextMoments s)) left
+    (subst (λ (r : State). Made s toNext (endingRound (moved (x .state) aSend)) (choosing ++ aSend ∷ endOf (moved r aSend)))
+    (sym (chosen-leads S e (chosen-by N) .there)) (serving e N (chosen-by N) (ended-by (moved (x .state) aSend))))
 
 pub made : {s : State} → Sound s → (c : Call) → Made s c (step s c) (momentsOf s c)
 unfolding momentsOf
@@ -70,7 +87,7 @@ made {s} S c = go (isNext c) refl
   where
     next : (b : Bool) → isEmpty (s .rows) ≡ b → Made s toNext (after s (nextCall s)) (cond b [] (nextMoments s))
     next true e = let q = eight s e in subst (λ (r : State). Made s toNext r []) (sym (ap (after s) q)) (unserved q)
-    next false e = serving e (served S e)
+    next false e = next-made S e (served S e)
 
     go : (b : Bool) → isNext c ≡ b → Made s c (step s c) (cond b (cond (isEmpty (s .rows)) [] (nextMoments s)) (aCall c ∷ []))
     go true e = rw (is-next c e, step-next s) (next (isEmpty (s .rows)) refl)
@@ -79,7 +96,9 @@ made {s} S c = go (isNext c) refl
 made-leads : {s s′ : State} {c : Call} {ms : List Moment} → InRange c → Sound s → Made s c s′ ms → Leads s ms s′
 unfolding moved
 made-leads {s} f S (unserved q) = leads-none s
-made-leads f S (serving e N) = next-leads e N
+made-leads f S (serving {choosing = choosing} {ends = ends} e N C E) =
+    leads-append choosing (aSend ∷ ends) (chosen-leads S e C)
+    (leads-append (aSend ∷ []) ends (leads-one aSend (N .chosen .slot, N .head, N .rest, N .choice .visit, N .still) refl) (ended-leads E))
 made-leads f S (other {c} n) = leads-one (aCall c) (n, f, S) refl
 
 pub moments-lead : (c : Call) {s : State} → InRange c → Sound s → Leads s (momentsOf s c) (step s c)

@@ -1,60 +1,30 @@
--- Demand 3 in the words of document 01, over lists of calls: each is what is proved of their moments, counted by the answers. And the same of any part of
--- their moments, wherever in a call it begins and ends.
-use Prim.Native.Nat.{ℕ, _+_, _*_, _^_, _≤_}
+-- Demand 3, each promise once for both editions: over any part of the moments of calls, wherever in a call a round begins and ends; and over calls by what
+-- their answers say, where their moments are a round. Last, in document 01's own wording, rounds that begin and end between calls and a channel that waits
+-- after every call. That is edition 1's, and its edition is asked for there: in edition 2 a round can start inside a call.
+use Prim.Native.Nat.{ℕ, _+_, _*_, _^_, _≤_, _<_}
 use mathlib.Core.Path.{_≡_, subst}
+use mathlib.Core.Bool.{false}
 use mathlib.Core.List.{List, _++_}
+use mathlib.Core.Logic.{_⊎_, inl, inr}
+use native.Mathlib.Omega.{arith}
 use Rattle.spread.specs.Distance.{Near}
-use Rattle.rules.specs.Numbers.{granted, restLimit, grantLimit}
-use Rattle.rules.specs.State.{State, at}
+use Rattle.rules.specs.Numbers.{granted, restLimit}
+use Rattle.rules.specs.State.{State, at, held}
 use Rattle.rules.specs.Calls.{Call, AllInRange}
-use Rattle.rules.specs.Facts.{SoundTo, Sound}
+use Rattle.rules.specs.Facts.{afterGrant, SoundTo, Sound}
 use Rattle.rules.proofs.Choosing.{sound-wider}
 use Rattle.promises.specs.Moments.{Moment, movedBy, momentsAlong, sentAt, visitsAt, costAt, momentsTotal}
-use Rattle.promises.specs.Rounds.{Starts, Waits, MomentsThroughout, Steady, MomentsWithin, MomentsRound, perPosition, oneSent, visitsOf, costOf, total, Throughout, WithinRound, Round}
+use Rattle.promises.specs.Rounds.{Starts, Waiting, Waits, MomentsBefore, MomentsThroughout, Steady, MomentsWithin, MomentsRound, perPosition, oneSent, visitsOf, costOf, total, Throughout, WithinRound, Round}
 use Rattle.promises.proofs.Lawful.{Lawful, moved-by-kept, lawful-first, lawful-rest}
 use Rattle.promises.proofs.Made.{moments-along}
 use Rattle.promises.proofs.Counts.{sends-same, visits-same, costs-same, calls-total}
 use Rattle.promises.proofs.Rounds.{moments-visited, moments-near, moments-cost}
 use Rattle.promises.proofs.Ends.{moments-end}
-use Rattle.promises.proofs.BetweenCalls.{calls-throughout, order-stable, waits-stable, calls-within, calls-round}
+use Rattle.promises.proofs.EveryMoment.{calls-wait}
+use Rattle.promises.proofs.BetweenCalls.{calls-order, calls-within, calls-round, waits-order, waits-steady}
+use Rattle.promises.proofs.Reached.{calls-or-round, moments-reached}
 
--- ---- over calls
-
--- "That channel is visited exactly as often as its weight w"
-pub visited-by-weight : (i : ℕ) (s : State) (cs : List Call) → Sound s → AllInRange cs → Round s cs → Throughout (Waits (s .order) i) s cs
-    → total (visitsOf i) s cs ≡ at (s .channels) i .weight
-visited-by-weight i s cs S f R waits =
-    rw (← calls-total (visits-same i) cs s f S)
-    (moments-visited i s (momentsAlong s cs) (sound-wider S) (moments-along cs f S .lawful) (calls-round f S R)
-    (calls-throughout (waits-stable (s .order) i) cs f S waits))
-
--- "and sends at least 1,024w - 1,023 and at most 1,024w + 1,023 bytes": "Demand 3's bytes read as cost." (02 §1)
-pub cost-by-weight : (i : ℕ) (s : State) (cs : List Call) → Sound s → AllInRange cs → Round s cs → Throughout (Waits (s .order) i) s cs
-    → (granted * at (s .channels) i .weight ≤ total (costOf i) s cs + restLimit) × (total (costOf i) s cs ≤ granted * at (s .channels) i .weight + restLimit)
-cost-by-weight i s cs S f R waits =
-    rw (← calls-total (costs-same i) cs s f S)
-    (moments-cost i s (momentsAlong s cs) (sound-wider S) (moments-along cs f S .lawful) (calls-round f S R)
-    (calls-throughout (waits-stable (s .order) i) cs f S waits))
-
--- "twice the distance between w1 times the second's visits and w2 times the first's is at most the larger weight times the larger of 2 and the order":
--- for every list of calls within the round, so after every call, ended or under way
-pub two-channels-near : (i j : ℕ) (s : State) (cs : List Call) → Sound s → AllInRange cs → Starts s → WithinRound 0 s cs
-    → Throughout (Waits (s .order) i) s cs → Throughout (Waits (s .order) j) s cs
-    → Near (s .order) (at (s .channels) i .weight) (total (visitsOf i) s cs) (at (s .channels) j .weight) (total (visitsOf j) s cs)
-two-channels-near i j s cs S f B inside waits-i waits-j =
-    rw (← calls-total (visits-same i) cs s f S, ← calls-total (visits-same j) cs s f S)
-    (moments-near i j s (momentsAlong s cs) (sound-wider S) (moments-along cs f S .lawful) B (calls-within 0 cs s f S inside)
-    (calls-throughout (waits-stable (s .order) i) cs f S waits-i) (calls-throughout (waits-stable (s .order) j) cs f S waits-j))
-
--- as long as no start is reached after a send, at most 64 times 2,047 records for each of 2^k positions are sent: so a round ends
-pub round-ends : (k : ℕ) (s : State) (cs : List Call) → Sound s → AllInRange cs → Throughout (λ s. s .order ≡ k) s cs → WithinRound 0 s cs
-    → total oneSent s cs ≤ perPosition * 2 ^ k
-round-ends k s cs S f o inside =
-    rw (← calls-total sends-same cs s f S)
-    (moments-end k s (momentsAlong s cs) (sound-wider S) (moments-along cs f S .lawful) (calls-throughout (order-stable k) cs f S o)
-    (calls-within 0 cs s f S inside))
-
--- ---- over a part of the moments of calls
+-- ---- over a part of the moments of calls, in both editions
 
 -- the calls cs, made on a sound state s, have the moments xs, then ms, then ys; ms begins at the state `from`
 module _ (s : State) (cs : List Call) (S : Sound s) (f : AllInRange cs) (xs ms ys : List Moment) (split : momentsAlong s cs ≡ xs ++ (ms ++ ys)) where
@@ -67,21 +37,96 @@ module _ (s : State) (cs : List Call) (S : Sound s) (f : AllInRange cs) (xs ms y
   part : Lawful from ms
   part = lawful-first ms ys from (lawful-rest xs (ms ++ ys) s whole)
 
-  sound-from : SoundTo grantLimit from
+  sound-from : SoundTo afterGrant from
   sound-from = moved-by-kept xs (lawful-first xs (ms ++ ys) s whole) (sound-wider S)
 
+  -- "That channel is visited exactly as often as its weight w"
   pub part-visited : (i : ℕ) → MomentsRound from ms → Steady (from .order) i from ms → momentsTotal (visitsAt i) from ms ≡ at (from .channels) i .weight
   part-visited i R st = moments-visited i from ms sound-from part R st
 
+  -- "and sends at least 1,024w - 1,023 and at most 1,024w + 1,023 bytes": "Demand 3's bytes read as cost." (02 §1)
   pub part-cost : (i : ℕ) → MomentsRound from ms → Steady (from .order) i from ms
       → (granted * at (from .channels) i .weight ≤ momentsTotal (costAt i) from ms + restLimit)
       × (momentsTotal (costAt i) from ms ≤ granted * at (from .channels) i .weight + restLimit)
   part-cost i R st = moments-cost i from ms sound-from part R st
 
-  -- so at every moment of a round
+  -- "twice the distance between w1 times the second's visits and w2 times the first's is at most the larger weight times the larger of 2 and the order":
+  -- for all moments within the round, so at every moment, ended or under way
   pub part-near : (i j : ℕ) → Starts from → MomentsWithin 0 from ms → Steady (from .order) i from ms → Steady (from .order) j from ms
       → Near (from .order) (at (from .channels) i .weight) (momentsTotal (visitsAt i) from ms) (at (from .channels) j .weight) (momentsTotal (visitsAt j) from ms)
   part-near i j B inside st₁ st₂ = moments-near i j from ms sound-from part B inside st₁ st₂
 
-  pub part-ends : (k : ℕ) → MomentsThroughout (λ s. s .order ≡ k) from ms → MomentsWithin 0 from ms → momentsTotal sentAt from ms ≤ perPosition * 2 ^ k
+  -- as long as no start is reached after a send, at most 64 times 2,047 records for each of 2^k positions are sent: so a round ends
+  pub part-ends : (k : ℕ) → MomentsBefore (λ r. r .order ≡ k) from ms → MomentsWithin 0 from ms → momentsTotal sentAt from ms ≤ perPosition * 2 ^ k
   part-ends k o inside = moments-end k from ms sound-from part o inside
+
+  -- "the next start is the first one after at least one send": moments from a start that send more than a round can hold begin with one whole round. (The
+  -- order is asked for as long as they are within it.)
+  pub part-reached : (k : ℕ) → (MomentsWithin 0 from ms → MomentsBefore (λ r. r .order ≡ k) from ms) → Starts from
+      → perPosition * 2 ^ k < momentsTotal sentAt from ms → (first : List Moment) × (others : List Moment) × (ms ≡ first ++ others) × MomentsRound from first
+  part-reached k o B l = moments-reached k from ms sound-from part o B l
+
+-- ---- over calls by what their answers say, in both editions
+
+module _ (s : State) (cs : List Call) (S : Sound s) (f : AllInRange cs) where
+  pub visits-answered : (i : ℕ) → MomentsRound s (momentsAlong s cs) → Steady (s .order) i s (momentsAlong s cs)
+      → total (visitsOf i) s cs ≡ at (s .channels) i .weight
+  visits-answered i R st =
+      rw (← calls-total (visits-same i) cs s f S) (moments-visited i s (momentsAlong s cs) (sound-wider S) (moments-along cs f S .lawful) R st)
+
+  pub cost-answered : (i : ℕ) → MomentsRound s (momentsAlong s cs) → Steady (s .order) i s (momentsAlong s cs)
+      → (granted * at (s .channels) i .weight ≤ total (costOf i) s cs + restLimit) × (total (costOf i) s cs ≤ granted * at (s .channels) i .weight + restLimit)
+  cost-answered i R st =
+      rw (← calls-total (costs-same i) cs s f S) (moments-cost i s (momentsAlong s cs) (sound-wider S) (moments-along cs f S .lawful) R st)
+
+  -- "after every call": for every list of calls whose moments are within the round
+  pub near-answered : (i j : ℕ) → Starts s → MomentsWithin 0 s (momentsAlong s cs) → Steady (s .order) i s (momentsAlong s cs)
+      → Steady (s .order) j s (momentsAlong s cs)
+      → Near (s .order) (at (s .channels) i .weight) (total (visitsOf i) s cs) (at (s .channels) j .weight) (total (visitsOf j) s cs)
+  near-answered i j B inside st₁ st₂ =
+      rw (← calls-total (visits-same i) cs s f S, ← calls-total (visits-same j) cs s f S)
+      (moments-near i j s (momentsAlong s cs) (sound-wider S) (moments-along cs f S .lawful) B inside st₁ st₂)
+
+  pub sends-answered : (k : ℕ) → MomentsBefore (λ r. r .order ≡ k) s (momentsAlong s cs) → MomentsWithin 0 s (momentsAlong s cs)
+      → total oneSent s cs ≤ perPosition * 2 ^ k
+  sends-answered k o inside =
+      rw (← calls-total sends-same cs s f S) (moments-end k s (momentsAlong s cs) (sound-wider S) (moments-along cs f S .lawful) o inside)
+
+  -- a channel that waits after every call waits at every moment
+  pub waits-at-moments : (i : ℕ) → Throughout (Waiting i) s cs → MomentsThroughout (Waiting i) s (momentsAlong s cs)
+  waits-at-moments i w = calls-wait i cs f S w
+
+-- ---- edition 1, in document 01's own wording: rounds between calls
+
+-- "That channel is visited exactly as often as its weight w"
+pub visited-by-weight : (i : ℕ) (s : State) (cs : List Call) → Sound s → AllInRange cs → held s ≡ false → Round s cs → Throughout (Waits (s .order) i) s cs
+    → total (visitsOf i) s cs ≡ at (s .channels) i .weight
+visited-by-weight i s cs S f g R w = visits-answered s cs S f i (calls-round (s .order) s cs S f g (waits-order (s .order) i s cs w) R) (waits-steady (s .order) i s cs S f g w)
+
+-- "and sends at least 1,024w - 1,023 and at most 1,024w + 1,023 bytes", of cost
+pub cost-by-weight : (i : ℕ) (s : State) (cs : List Call) → Sound s → AllInRange cs → held s ≡ false → Round s cs → Throughout (Waits (s .order) i) s cs
+    → (granted * at (s .channels) i .weight ≤ total (costOf i) s cs + restLimit) × (total (costOf i) s cs ≤ granted * at (s .channels) i .weight + restLimit)
+cost-by-weight i s cs S f g R w = cost-answered s cs S f i (calls-round (s .order) s cs S f g (waits-order (s .order) i s cs w) R) (waits-steady (s .order) i s cs S f g w)
+
+-- "For two such channels, after every call, twice the distance between ..": for every list of calls within the round, so after every call, ended or under way
+pub two-channels-near : (i j : ℕ) (s : State) (cs : List Call) → Sound s → AllInRange cs → held s ≡ false → Starts s → WithinRound 0 s cs
+    → Throughout (Waits (s .order) i) s cs → Throughout (Waits (s .order) j) s cs
+    → Near (s .order) (at (s .channels) i .weight) (total (visitsOf i) s cs) (at (s .channels) j .weight) (total (visitsOf j) s cs)
+two-channels-near i j s cs S f g B inside w w′ =
+    near-answered s cs S f i j B (calls-within (s .order) s cs S f g (waits-order (s .order) i s cs w) inside) (waits-steady (s .order) i s cs S f g w) (waits-steady (s .order) j s cs S f g w′)
+
+-- a round ends
+pub round-ends : (k : ℕ) (s : State) (cs : List Call) → Sound s → AllInRange cs → held s ≡ false → Throughout (λ s. s .order ≡ k) s cs → WithinRound 0 s cs
+    → total oneSent s cs ≤ perPosition * 2 ^ k
+round-ends k s cs S f g o inside = sends-answered s cs S f k (calls-order k s cs S f g o .0) (calls-within k s cs S f g o inside)
+
+-- "the next start is the first one after at least one send": from a start on, calls with the order equal throughout that send more than a round can hold
+-- begin with one whole round
+pub round-reached : (k : ℕ) (s : State) (cs : List Call) → Sound s → AllInRange cs → held s ≡ false → Throughout (λ s. s .order ≡ k) s cs → Starts s
+    → perPosition * 2 ^ k < total oneSent s cs → (first : List Call) × (others : List Call) × (cs ≡ first ++ others) × Round s first
+round-reached k s cs S f g o B l = go (calls-or-round s cs B)
+  where
+    go : WithinRound 0 s cs ⊎ ((first : List Call) × (others : List Call) × (cs ≡ first ++ others) × Round s first)
+        → (first : List Call) × (others : List Call) × (cs ≡ first ++ others) × Round s first
+    go (inl w) = let m = round-ends k s cs S f g o w in absurd (omega arith)
+    go (inr r) = r

@@ -3,7 +3,7 @@ use Prim.Native.Nat.{ℕ, _^_, _≤_, _<_}
 use mathlib.Core.Path.{_≡_, refl, _∙_}
 use mathlib.Core.Bool.{false}
 use mathlib.Core.List.{List, [], _∷_}
-use native.Mathlib.Nat.{lt-of-lt-of-le}
+use native.Mathlib.Nat.{le-trans, lt-of-lt-of-le}
 use native.Mathlib.Omega.{arith}
 use lib.Pow.{pow-mono}
 use Rattle.bits.specs.Order.{order}
@@ -11,7 +11,7 @@ use Rattle.bits.proofs.OrderLaws.{order-lt}
 use Rattle.lists.specs.Slots.{occurs}
 use Rattle.lists.specs.Tests.{isEmpty}
 use Rattle.rules.specs.State.{State, fresh, at, weights}
-use Rattle.rules.specs.Facts.{SoundTo}
+use Rattle.rules.specs.Facts.{Edition, Stage, SoundTo}
 use Rattle.rules.proofs.Columns.{orderOf-row}
 use Rattle.rules.proofs.Rows.{filled-row, row-weight}
 use Rattle.rules.proofs.Kept.{fresh-sound}
@@ -21,7 +21,7 @@ row-there : (i : ℕ) (rows : List ℕ) → occurs i rows ≡ 1 → isEmpty rows
 row-there i [] e = absurd (omega arith)
 row-there i (r ∷ rs) e = refl
 
-module _ {b : ℕ} {s : State} (S : SoundTo b s) (i : ℕ) (h : Waiting i s) where
+module _ {b : Stage} {s : State} (S : SoundTo b s) (i : ℕ) (h : Waiting i s) where
   pub waits-row : occurs i (s .rows) ≡ 1
   waits-row = S .slot i .row ∙ filled-row (at (s .channels) i .waiting) h
 
@@ -34,9 +34,9 @@ module _ {b : ℕ} {s : State} (S : SoundTo b s) (i : ℕ) (h : Waiting i s) whe
   pub weight-lt : at (s .channels) i .weight < 2 ^ s .order
   weight-lt =
       let m : occurs i (s .rows) ≡ 1 = waits-row in
-      let l : order (weights (s .channels) i) ≤ s .order = rw (S .order-is) (orderOf-row (weights (s .channels)) i (s .rows) (omega arith)) in
+      let l : order (weights (s .channels) i) ≤ s .order = le-trans (orderOf-row (weights (s .channels)) i (s .rows) (omega arith)) (S .order-above) in
       lt-of-lt-of-le (order-lt (weights (s .channels) i)) (pow-mono l)
 
-pub fresh-idle : (i : ℕ) → Waiting i fresh → ⊥
+pub fresh-idle : (e : ℕ) → Edition e → (i : ℕ) → Waiting i (fresh e) → ⊥
 unfolding fresh
-fresh-idle i h = let m : occurs i (fresh .rows) ≡ 1 = waits-row fresh-sound i h in omega arith
+fresh-idle e E i h = let m : occurs i (fresh e .rows) ≡ 1 = waits-row (fresh-sound e E) i h in omega arith

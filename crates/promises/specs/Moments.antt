@@ -5,14 +5,13 @@ use mathlib.Core.List.{List, [], _∷_, _++_}
 use mathlib.Core.Option.{Option, none, some}
 use lib.Dec.{eqb}
 use Rattle.lists.specs.Tests.{isEmpty}
-use Rattle.rules.specs.Numbers.{mostTerms}
-use Rattle.rules.specs.State.{Record, cost, State, at}
-use Rattle.rules.specs.Next.{termTaken, visitStarted, paying, settled}
+use Rattle.rules.specs.State.{Record, cost, State, at, roundOver}
+use Rattle.rules.specs.Next.{termTaken, roundEnded, endingRound, visitStarted, termsMost, paying, settled}
 use Rattle.rules.specs.Calls.{Call, ofNext, step}
 
--- a term taken, a visit started, a record sent and its visit settled; and, as one moment, any call but Next
+-- a term taken, a round ended, a visit started, a record sent and its visit settled; and, as one moment, any call but Next
 pub data Moment : Type 0 where
-  aTerm aVisit aSend : Moment
+  aTerm anEnd aVisit aSend : Moment
   aCall : Call → Moment
 
 -- ---- the state after a moment
@@ -31,6 +30,7 @@ visitSends (some i) s = headSent (at (s .channels) i .waiting) s i
 
 unfoldable pub moved : State → Moment → State
 moved s aTerm = termTaken s
+moved s anEnd = roundEnded s
 moved s aVisit = firstVisited (s .scan .toVisit) s
 moved s aSend = visitSends (s .scan .visit) s
 moved s (aCall c) = step s c
@@ -41,20 +41,27 @@ movedBy s (m ∷ ms) = movedBy (moved s m) ms
 
 -- ---- the moments of a call
 
--- terms until there are slots to visit, f at the most, and the first visit
+-- "a round's end (term 2^k - 1 taken, no visit open, none left to visit)" is a moment of its own, of the call that comes to it
+abbrev pub endOf : State → List Moment
+endOf s = cond (roundOver s) (anEnd ∷ []) []
+
+-- "A call goes on taking terms, through a round's end if need be, until it finds a row", f at the most; then the first visit
 unfoldable pub scanMoments : ℕ → State → List Moment
 scanMoments zero s = aVisit ∷ []
 scanMoments (suc f) s =
-    let later = scanMoments f (termTaken s) in
-    cond (isEmpty (s .scan .toVisit)) (aTerm ∷ later) (aVisit ∷ [])
+    let later = scanMoments f (endingRound (termTaken s)) in
+    cond (isEmpty (s .scan .toVisit)) (aTerm ∷ endOf (termTaken s) ++ later) (aVisit ∷ [])
 
 -- none, if a visit is open
 abbrev pub chooseMoments : Option ℕ → State → List Moment
-chooseMoments none s = scanMoments mostTerms s
+chooseMoments none s = scanMoments (termsMost s) s
 chooseMoments (some v) s = []
 
+-- and after the send the round's end, if the settled visit was its last
 abbrev pub nextMoments : State → List Moment
-nextMoments s = chooseMoments (s .scan .visit) s ++ aSend ∷ []
+nextMoments s =
+    let choosing = chooseMoments (s .scan .visit) s in
+    choosing ++ aSend ∷ endOf (moved (movedBy s choosing) aSend)
 
 abbrev pub isNext : Call → Bool
 isNext = ofNext false true
@@ -71,6 +78,7 @@ momentsAlong s (c ∷ cs) = momentsOf s c ++ momentsAlong (step s c) cs
 
 abbrev pub sentAt : State → Moment → ℕ
 sentAt s aTerm = 0
+sentAt s anEnd = 0
 sentAt s aVisit = 0
 sentAt s aSend = 1
 sentAt s (aCall c) = 0
@@ -81,6 +89,7 @@ isFirst i (j ∷ rest) = cond (eqb i j) 1 0
 
 abbrev pub visitsAt : ℕ → State → Moment → ℕ
 visitsAt i s aTerm = 0
+visitsAt i s anEnd = 0
 visitsAt i s aVisit = isFirst i (s .scan .toVisit)
 visitsAt i s aSend = 0
 visitsAt i s (aCall c) = 0
@@ -95,6 +104,7 @@ visitCost i (some j) s = cond (eqb i j) (headCost (at (s .channels) j .waiting))
 
 abbrev pub costAt : ℕ → State → Moment → ℕ
 costAt i s aTerm = 0
+costAt i s anEnd = 0
 costAt i s aVisit = 0
 costAt i s aSend = visitCost i (s .scan .visit) s
 costAt i s (aCall c) = 0

@@ -8,7 +8,16 @@ ghost use mathlib.Core.Path.{_≡_};
 ghost use Prim.Native.Nat.{_^_, _≤_, _<_};
 ghost use Rattle.bits.specs.Order.{order as bitsOf};
 ghost use Rattle.spread.specs.Limits.{columns};
+ghost use Rattle.spread.specs.Visits.{columnAt};
 ghost use Rattle.spread.specs.Jump.{jump, landing};
+
+// "the column is k minus the term", at a position of a round of the order.
+pub fn column_at(order: u32, position: u32) -> u32
+    requires { ⌜ (order ≤ columns) × (0 < position) × (position < 2 ^ order) ⌝ }
+    ensures { λ r. ⌜ (r ≡ columnAt order position) × (r < order) ⌝ }
+{
+    order - (trailing_of(position) + 1)
+}
 
 // The first position behind `position` whose column has a row, from the union of the rows' weights, and 0 where this round has none left.
 pub fn next_filled(order: u32, union: u32, position: u32) -> u32
@@ -20,7 +29,7 @@ pub fn next_filled(order: u32, union: u32, position: u32) -> u32
     if (1u32 << order) <= first {
         return 0;
     }
-    let column = order - (trailing_of(first) + 1);
+    let column = column_at(order, first);
     if (union >> column) % 2 == 1 {
         return first;
     }

@@ -8,9 +8,11 @@ use native.Mathlib.Omega.{arith}
 use lib.ListN.{length, take, drop, drop-of-length-le}
 use lib.Dec.{leb}
 use lib.Seq.{length-take-le, take-all}
-use borrow.Author.Tests.{eq-eqb, lt-ltb, le-ltb, leb-true, leb-false}
+use borrow.Author.Tests.{lt-ltb, le-ltb, leb-true, leb-false}
+use Rattle.rules.specs.Numbers.{falling}
 use Rattle.memory.specs.Layout.{memoryLength}
 use Rattle.memory.specs.Memory.{freshMemory, startOn}
+use Rattle.memory.proofs.OnLaws.{startOn-fresh}
 use Rattle.text.specs.Lines.{linesOf, lineAt, lineAfter}
 use Rattle.text.specs.Commands.{commandOf}
 use Rattle.text.specs.Writing.{written}
@@ -99,9 +101,8 @@ written-stands text before {r} {after} h p e =
     }
 
 -- "Start writes the fresh state"
-pub start-fresh : (b : List ℕ) → length b ≡ memoryLength → startOn b .bytes ≡ freshMemory
-unfolding startOn
-start-fresh b h = rw (eq-eqb (length b) memoryLength h)
+pub start-fresh : (b : List ℕ) → length b ≡ memoryLength → startOn falling b .bytes ≡ freshMemory falling
+start-fresh b h = rw (startOn-fresh falling b h (omega arith, omega arith))
 
 -- "Empty input prints nothing."
 lift-empty : lift [] ≡ []
@@ -124,6 +125,6 @@ lift-read s = go (leb (length s) (most + 1)) refl
         let read : length (take (most + 1) s) ≡ most + 1 = length-take-le (most + 1) s (omega arith) in
         lift-long (take (most + 1) s) (omega arith) ∙ sym (lift-long s (omega arith))
 
-pub lift-short : (s : List ℕ) → length s ≤ most → lift s ≡ output freshMemory (linesOf s)
+pub lift-short : (s : List ℕ) → length s ≤ most → lift s ≡ output (freshMemory falling) (linesOf s)
 unfolding lift
 lift-short s h = rw (le-ltb most (length s) h)

@@ -65,7 +65,7 @@ answer-is-line b (some (toOpen w)) = said-line 79 openedFields refl (on (openCal
 answer-is-line b (some (toPut i t n r)) = said-line 80 takenFields refl (on (putCall i t n r) b .answer)
 answer-is-line b (some (toClose i t)) = said-line 67 closedFields refl (on (closeCall i t) b .answer)
 answer-is-line b (some toNext) = said-line 78 sentFields refl (on nextCall b .answer)
-answer-is-line b (some toStart) = unknown-line
+answer-is-line b (some (toStart e)) = unknown-line
 answer-is-line b (some (toAsk i t)) = unknown-line
 
 -- the lines that a text's lines print

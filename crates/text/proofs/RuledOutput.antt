@@ -1,6 +1,6 @@
 -- The program prints what the rules say: on the memory of a sound state each line's answer is the rules' own, and the memory left is the next state's.
 -- With it document 01's listing is computed on states, whole.
-use mathlib.Core.Path.{_≡_, refl, sym, ap, ap₂, _∙_}
+use mathlib.Core.Path.{_≡_, refl, ap, ap₂, _∙_}
 use mathlib.Core.List.{List, [], _∷_, _++_}
 use mathlib.Core.Option.{Option, none, some}
 use Prim.Native.Nat.{ℕ, _≤_}
@@ -12,7 +12,8 @@ use Rattle.bits.specs.Trailing.{trailing}
 use Rattle.spread.specs.Sequence.{term}
 use Rattle.spread.specs.Visits.{columnAt}
 use Rattle.answers.specs.Answer.{numberOf, refused, given}
-use Rattle.rules.specs.State.{State, fresh, cost, orderOf, columnOf}
+use Rattle.rules.specs.Numbers.{falling}
+use Rattle.rules.specs.State.{State, fresh, cost, roundOver, orderOf, columnOf}
 use Rattle.rules.specs.Reply.{Reply, after}
 use Rattle.rules.specs.Next.{scanning, nextCall}
 use Rattle.rules.specs.Calls.{lowest, openCall, putCall, closeCall, Call, toOpen, toPut, toClose, toNext, toStart, toAsk}
@@ -53,7 +54,7 @@ ruledTo s (some (toOpen w)) = ruled s 79 openedFields (openCall w s)
 ruledTo s (some (toPut i t n r)) = ruled s 80 takenFields (putCall i t n r s)
 ruledTo s (some (toClose i t)) = ruled s 67 closedFields (closeCall i t s)
 ruledTo s (some toNext) = ruled s 78 sentFields (nextCall s)
-ruledTo s (some toStart) = passed s
+ruledTo s (some (toStart e)) = passed s
 ruledTo s (some (toAsk i t)) = passed s
 
 unfoldable pub ruledOutput : State → List (List ℕ) → List ℕ
@@ -89,7 +90,7 @@ follows {s} S l = go (commandOf l) refl
         }
     go (some (toClose i t)) e = record { line = on-line 67 closedFields (closeCall i t) S; memory = on-after (closeCall i t) S; sound = close-kept i t s S }
     go (some toNext) e = record { line = on-line 78 sentFields nextCall S; memory = on-after nextCall S; sound = next-kept s S }
-    go (some toStart) e = record { line = refl; memory = refl; sound = S }
+    go (some (toStart n)) e = record { line = refl; memory = refl; sound = S }
     go (some (toAsk i t)) e = record { line = refl; memory = refl; sound = S }
 
 pub output-ruled : {s : State} → Sound s → (ls : List (List ℕ)) → output (bytesOf s) ls ≡ ruledOutput s ls
@@ -99,9 +100,9 @@ output-ruled S (l ∷ ls) =
     let f = follows S l in
     ap₂ _++_ (f .line) (ap (λ (m : List ℕ). output m ls) (f .memory) ∙ output-ruled (f .sound) ls)
 
--- an input that is not too long prints what the rules say to its lines, from the fresh state on
-pub lift-ruled : (input : List ℕ) → length input ≤ most → lift input ≡ ruledOutput fresh (linesOf input)
-lift-ruled input h = lift-short input h ∙ output-ruled fresh-sound (linesOf input)
+-- an input that is not too long prints what the rules say to its lines, from edition 1's fresh state on
+pub lift-ruled : (input : List ℕ) → length input ≤ most → lift input ≡ ruledOutput (fresh falling) (linesOf input)
+lift-ruled input h = lift-short input h ∙ output-ruled (fresh-sound falling (omega arith, omega arith)) (linesOf input)
 
 -- ---- The listing of document 01 with 1,014 for 1,024 (02 §1): the input, and "Output, whole".
 abbrev pub listed : List ℕ
@@ -136,8 +137,8 @@ whole =
     ∷ 79 ∷ 32 ∷ 48 ∷ 32 ∷ 50 ∷ 10
     ∷ 63 ∷ 10 ∷ []
 
-listing : ruledOutput fresh (linesOf listed) ≡ whole
-unfolding ruledOutput linesOf commandOf spacedOff numberOff digitsOff digitsBy isDigit fresh openCall putCall closeCall nextCall lowest scanning orderOf columnOf cost columnAt term trailing bit order
+listing : ruledOutput (fresh falling) (linesOf listed) ≡ whole
+unfolding ruledOutput linesOf commandOf spacedOff numberOff digitsOff digitsBy isDigit fresh openCall putCall closeCall nextCall lowest scanning orderOf columnOf cost roundOver columnAt term trailing bit order
 listing = refl
 
 pub listing-lifted : lift listed ≡ whole

@@ -42,7 +42,7 @@ shown-read (toClose i t) l e h =
     ∙ withNumber-shown (λ i. withNumber (λ t. atEnd (toClose i t))) i (t ∷ []) (h .0)
     ∙ withNumber-shown (λ t. atEnd (toClose i t)) t [] (h .1)
 shown-read toNext l e h = let is : l ≡ 78 ∷ [] = cc in ap commandOf is
-shown-read toStart l e h = let z : _≡_ {A = ℕ} 0 1 = cc in absurd (omega arith)
+shown-read (toStart n) l e h = let z : _≡_ {A = ℕ} 0 1 = cc in absurd (omega arith)
 shown-read (toAsk i t) l e h = let z : _≡_ {A = ℕ} 0 1 = cc in absurd (omega arith)
 
 -- ---- What is read is written.

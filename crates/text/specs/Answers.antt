@@ -7,6 +7,7 @@ use Prim.Native.Nat.{ℕ, _+_, _*_, _≤_}
 use lib.Dec.{ltb}
 use lib.ListN.{length, take}
 use Rattle.answers.specs.Answer.{numberOf, Answer, refused, given}
+use Rattle.rules.specs.Numbers.{falling}
 use Rattle.rules.specs.Next.{nextCall}
 use Rattle.rules.specs.Calls.{openCall, putCall, closeCall, Call, toOpen, toPut, toClose, toNext, toStart, toAsk}
 use Rattle.rules.specs.Listed.{openedFields, takenFields, closedFields, sentFields}
@@ -45,7 +46,7 @@ callAnswer b (toOpen w) = printed 79 openedFields (on (openCall w) b)
 callAnswer b (toPut i t n r) = printed 80 takenFields (on (putCall i t n r) b)
 callAnswer b (toClose i t) = printed 67 closedFields (on (closeCall i t) b)
 callAnswer b toNext = printed 78 sentFields (on nextCall b)
-callAnswer b toStart = other b
+callAnswer b (toStart e) = other b
 callAnswer b (toAsk i t) = other b
 
 -- "or `?` for a line of any other form"
@@ -70,9 +71,9 @@ most = 65536
 abbrev pub tooLong : List ℕ
 tooLong = 63 ∷ 32 ∷ 105 ∷ 110 ∷ 112 ∷ 117 ∷ 116 ∷ 10 ∷ []
 
--- "Start writes the fresh state": the lines are answered from there on
+-- "Start writes the fresh state": the lines are answered from there on. "`lift` uses 1." (02 §3)
 unfoldable pub lift : List ℕ → List ℕ
-lift input = cond (ltb most (length input)) tooLong (output freshMemory (linesOf input))
+lift input = cond (ltb most (length input)) tooLong (output (freshMemory falling) (linesOf input))
 
 -- ---- What the code says of what it wrote.
 

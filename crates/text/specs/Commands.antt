@@ -23,7 +23,7 @@ shown (toOpen w) = some (79 ∷ spaced (w ∷ []))
 shown (toPut i t n r) = some (80 ∷ spaced (i ∷ t ∷ n ∷ r ∷ []))
 shown (toClose i t) = some (67 ∷ spaced (i ∷ t ∷ []))
 shown toNext = some (78 ∷ spaced [])
-shown toStart = none
+shown (toStart e) = none
 shown (toAsk i t) = none
 
 -- "decimals up to 4,294,967,295": each number of the call is
@@ -32,7 +32,7 @@ Decimals (toOpen w) = w ≤ largest
 Decimals (toPut i t n r) = (i ≤ largest) × (t ≤ largest) × (n ≤ largest) × (r ≤ largest)
 Decimals (toClose i t) = (i ≤ largest) × (t ≤ largest)
 Decimals toNext = Unit {0}
-Decimals toStart = Unit {0}
+Decimals (toStart e) = Unit {0}
 Decimals (toAsk i t) = (i ≤ largest) × (t ≤ largest)
 
 -- l is the line of the call c

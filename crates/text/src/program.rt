@@ -10,6 +10,7 @@ ghost use Rattle.text.specs.Answers.{output, most, lift, roomFor, Stands
 use super::answer::answer_line;
 use super::writing::put_bytes;
 use memory::layout::LENGTH;
+use rules::FALLING;
 use uplink::open::start;
 
 // "Input above 65,536 bytes prints only `? input`."
@@ -47,6 +48,6 @@ pub fn run(input: &[u8], n: usize, out: &mut [u8]) -> usize
         return put_bytes(out, 0, b"? input\n");
     }
     let mut state = [0u8; LENGTH];
-    start(&mut state);
+    start(&mut state, FALLING as u32);
     answer_all(&mut state, &input[..n], out)
 }

@@ -12,7 +12,6 @@ use rules::GRANTED;
 use rules::cost_of;
 use soundness::check;
 use std::num::wrapping_sub_u16;
-use visits::choose::Choice;
 use visits::choose::Chosen;
 use visits::choose::choose;
 use visits::settle::settle;
@@ -48,9 +47,7 @@ fn next_in(state: &mut [u8]) -> NextAnswer
         return NextAnswer::Refused(Refusal::NoneWaits);
     }
     let scan = load_scan(state);
-    let Choice::Slot(chosen) = choose(state, scan) else {
-        return NextAnswer::Refused(Refusal::NoRow);
-    };
+    let chosen = choose(state, scan);
     send(state, chosen)
 }
 
@@ -66,8 +63,7 @@ fn send(state: &mut [u8], chosen: Chosen) -> NextAnswer
     let serial = head_serial(state, slot, head.serial);
     let cost = cost_of(first.length);
     let paid = paying(head, chosen.started, cost);
-    let scan = chosen.scan;
-    settle(state, slot, place, paid, scan);
+    settle(state, slot, place, paid, chosen.order, chosen.scan);
     NextAnswer::Sent {
         slot: slot as u32,
         ticket: head.ticket,

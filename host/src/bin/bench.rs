@@ -67,7 +67,7 @@ fn main() -> ExitCode {
 
 /// Channels of many weights, each with so many records of many lengths.
 fn filled(channels: u32, records: u32) -> Scheduler {
-    let mut scheduler = Scheduler::start();
+    let mut scheduler = Scheduler::fresh(1);
     for channel in 0..channels {
         let opened = scheduler.open(1 + channel * 61 % 4_095).expect("a slot is free");
         for record in 0..records {

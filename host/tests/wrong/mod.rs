@@ -1,80 +1,15 @@
 //! Wrong engines: the model engine with one slip each. The comparer must find every one.
 
+mod held;
+mod slip;
+
 use host::answers::{Opened, Refusal, Sent};
 use host::engine::Engine;
 use host::layout;
-use host::model::{answer_bytes, apart, on, Model};
+use host::model::{answer_bytes, apart, on};
 use host::scheduler::{Kind, Scheduler, FRAMING, LAST_TICKET, LONGEST};
 use host::spread;
-
-#[derive(Clone, Copy, Debug, PartialEq, Eq)]
-pub enum Slip {
-    // Document 01, "Slips we have seen".
-    SlotNotTicket,
-    JoinsTheScan,
-    DeficitKept,
-    VisitDecidedLate,
-    PositionOne,
-    // What a record costs (document 02, §1).
-    LengthCompared,
-    LengthTaken,
-    FramingOnTheVisit,
-    OneByteLonger,
-    // Other slips in the rules.
-    LessForAtMost,
-    SlotOrder,
-    ColumnKept,
-    SerialStops,
-    RiseMovesPosition,
-    WrapToZero,
-    TicketReused,
-    ClosingKept,
-    // Slips in the checks and on the driver's side.
-    SevenBeforeSix,
-    FiveBeforeFour,
-    FourBeforeThree,
-    AnswerKeptOnRefusal,
-    WrongAnswerWritten,
-    NothingUnchecked,
-    VisitLimit,
-    LongerChecked,
-    LengthChecked,
-    TermOneFurther,
-    LeadNarrow,
-}
-
-impl Slip {
-    pub const ALL: [Slip; 28] = [
-        Slip::SlotNotTicket,
-        Slip::JoinsTheScan,
-        Slip::DeficitKept,
-        Slip::VisitDecidedLate,
-        Slip::PositionOne,
-        Slip::LengthCompared,
-        Slip::LengthTaken,
-        Slip::FramingOnTheVisit,
-        Slip::OneByteLonger,
-        Slip::LessForAtMost,
-        Slip::SlotOrder,
-        Slip::ColumnKept,
-        Slip::SerialStops,
-        Slip::RiseMovesPosition,
-        Slip::WrapToZero,
-        Slip::TicketReused,
-        Slip::ClosingKept,
-        Slip::SevenBeforeSix,
-        Slip::FiveBeforeFour,
-        Slip::FourBeforeThree,
-        Slip::AnswerKeptOnRefusal,
-        Slip::WrongAnswerWritten,
-        Slip::NothingUnchecked,
-        Slip::VisitLimit,
-        Slip::LongerChecked,
-        Slip::LengthChecked,
-        Slip::TermOneFurther,
-        Slip::LeadNarrow,
-    ];
-}
+pub use slip::Slip;
 
 pub struct Wrong(pub Slip);
 
@@ -123,8 +58,8 @@ impl Wrong {
         number
     }
 
-    /// What the engine goes on with where a wrong check passes an unsound memory: one with a record a byte longer than the longest, or with an open visit
-    /// whose deficit pays for the bare length of its head.
+    /// What the engine goes on with where a wrong check passes an unsound memory: one with a record a byte longer than the longest, with an open visit
+    /// whose deficit pays for the bare length of its head, or at a round's end.
     fn passed(&self, state: &[u8]) -> Option<Scheduler> {
         let mut scheduler = layout::from_bytes(state).filter(|scheduler| layout::to_bytes(scheduler) == state)?;
         match self.0 {
@@ -137,6 +72,7 @@ impl Wrong {
                 let head = channel.records.front().filter(|head| head.length <= channel.deficit)?;
                 channel.deficit = channel.deficit.max(head.cost());
             }
+            Slip::EndTakenAsSound => scheduler.end_round(&mut |_, _| {}),
             _ => return None,
         }
         // Any other fault is still found.
@@ -166,6 +102,9 @@ impl Wrong {
         if self.is(Slip::RiseMovesPosition) && before.order > 0 {
             scan.position <<= after.order - before.order;
         }
+        if self.is(Slip::PutLowersOrder) && waiting == 1 {
+            after.order = after.order_of_rows();
+        }
         if self.is(Slip::SerialStops) && before.channels[slot].next_serial == 65_535 {
             after.channels[slot].next_serial = 65_535;
         }
@@ -175,6 +114,9 @@ impl Wrong {
     fn next_call(&self, scheduler: &mut Scheduler) -> Result<Sent, Refusal> {
         if scheduler.rows.is_empty() {
             return Err(Refusal::NoneWaits);
+        }
+        if self.is(Slip::EndAtNextCall) {
+            self.end_round(scheduler);
         }
         let (slot, started, terms) = self.choose(scheduler)?;
         let channel = &scheduler.channels[slot];
@@ -186,6 +128,9 @@ impl Wrong {
             scheduler.channels[slot].deficit += FRAMING;
         }
         self.settle(scheduler, slot);
+        if !self.is(Slip::EndAtNextCall) {
+            self.end_round(scheduler);
+        }
         Ok(Sent { slot: slot as u32, ticket, length: record.length as u32, reference: record.reference as u32, serial, started, terms })
     }
 
@@ -195,7 +140,7 @@ impl Wrong {
         }
         let mut terms = 0;
         if scheduler.scan.to_visit.is_empty() {
-            terms = scheduler.take_terms()?;
+            terms = self.take_terms(scheduler)?;
             if self.is(Slip::WrapToZero) && scheduler.scan.position + 1 == 1 << scheduler.order {
                 scheduler.scan.position = 0;
             }
@@ -231,14 +176,15 @@ impl Wrong {
             Slip::PositionOne if scheduler.order > 0 && scheduler.order < order && position > 0 => {
                 scheduler.scan.position = scheduler.scan.position.max(1);
             }
+            _ if emptied => self.leave_slips(scheduler, order, position),
             _ => {}
         }
     }
 }
 
 impl Engine for Wrong {
-    fn start(&mut self, state: &mut [u8]) -> u32 {
-        Model.start(state)
+    fn start(&mut self, state: &mut [u8], edition: u32) -> u32 {
+        self.start_call(state, edition)
     }
 
     fn open(&mut self, state: &mut [u8], weight: u32, answer: &mut [u8]) -> u32 {

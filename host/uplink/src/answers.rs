@@ -33,7 +33,7 @@ pub struct Sent {
     pub serial: u32,
     /// Whether this send started a visit.
     pub started: bool,
-    /// Terms taken: 0, 1 or 2.
+    /// Terms taken: 0, 1 or 2; in edition 2 up to 2^k - 1, with k the order before the call.
     pub terms: u32,
 }
 

@@ -4,7 +4,7 @@
 //! to; state and answer must not overlap, and are lent for the call alone.
 
 extern "C" {
-    pub fn uplink_start(state: *mut u8, state_length: usize) -> u32;
+    pub fn uplink_start(state: *mut u8, state_length: usize, edition: u32) -> u32;
     pub fn uplink_open(state: *mut u8, state_length: usize, weight: u32, answer: *mut u8, answer_length: usize) -> u32;
     pub fn uplink_put(
         state: *mut u8,

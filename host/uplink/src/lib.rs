@@ -1,6 +1,6 @@
 #![doc = include_str!("../README.md")]
 //!
-//! - [`Memory`]: the calls on a state; [`lead`] and [`term`] take none.
+//! - [`Memory`]: the calls on a state, of one [`Edition`] or the other; [`lead`] and [`term`] take none.
 //! - What they answer: [`Opened`], [`Added`], [`Closed`], [`Sent`], [`Told`], or a [`Refusal`].
 //! - [`entries`]: the C entries themselves, for bytes that are kept elsewhere.
 
@@ -10,5 +10,5 @@ mod memory;
 mod refusal;
 
 pub use answers::{Added, Closed, Opened, Sent, Standing, Told};
-pub use memory::{lead, term, Memory};
+pub use memory::{lead, term, Edition, Memory};
 pub use refusal::Refusal;

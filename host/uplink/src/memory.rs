@@ -8,6 +8,15 @@ use crate::answers::{Added, Closed, Opened, Sent, Standing, Told};
 use crate::entries::{uplink_ask, uplink_close, uplink_lead, uplink_next, uplink_open, uplink_put, uplink_start, uplink_term};
 use crate::refusal::Refusal;
 
+/// The rule that the order follows when a row leaves. A memory keeps it from one start to the next.
+#[derive(Clone, Copy, Debug, PartialEq, Eq, Hash)]
+pub enum Edition {
+    /// The order falls at once, and the position with it.
+    One = 1,
+    /// The order is held until the round ends, so that a light channel's turn comes however often a heavy one empties and refills.
+    Two = 2,
+}
+
 /// The memory of one scheduler. Any bytes may stand in it: what is unsound is refused.
 #[derive(Clone, PartialEq, Eq)]
 pub struct Memory([u8; Memory::LENGTH]);
@@ -17,10 +26,10 @@ impl Memory {
     /// How many bytes it has.
     pub const LENGTH: usize = 7_040;
 
-    /// The fresh state.
-    pub fn new() -> Memory {
+    /// The fresh state of an edition.
+    pub fn new(edition: Edition) -> Memory {
         let mut memory = Memory([0; Memory::LENGTH]);
-        memory.start();
+        memory.start(edition);
         memory
     }
 
@@ -39,10 +48,10 @@ impl Memory {
         self.ask(u32::MAX, 0) == Err(Refusal::NoSlot)
     }
 
-    /// Writes the fresh state over whatever stands here.
-    pub fn start(&mut self) {
-        // Only another length is refused.
-        unsafe { uplink_start(self.0.as_mut_ptr(), Memory::LENGTH) };
+    /// Writes the fresh state of an edition over whatever stands here.
+    pub fn start(&mut self, edition: Edition) {
+        // Only another length and another edition are refused.
+        unsafe { uplink_start(self.0.as_mut_ptr(), Memory::LENGTH, edition as u32) };
     }
 
     /// Opens a channel of this weight in the lowest slot that can be opened.
@@ -91,12 +100,6 @@ impl Memory {
         let standing = if field(&answer, 0) == 2 { Standing::Closing } else { Standing::Open };
         let told = Told { standing, weight: field(&answer, 1), deficit: field(&answer, 2), waiting: field(&answer, 3) };
         accepted(number, told)
-    }
-}
-
-impl Default for Memory {
-    fn default() -> Memory {
-        Memory::new()
     }
 }
 

@@ -28,11 +28,13 @@ pub enum Refusal {
     Unsound = 10,
     /// Order not 1 to 12, or position not 1 to 2^order - 1.
     NoTerm = 11,
+    /// Edition not 1 or 2. An [`Edition`](crate::Edition) is one of them, so only the C entry gives it.
+    BadEdition = 12,
 }
 
 impl Refusal {
     /// Every refusal, by its number.
-    pub const ALL: [Refusal; 11] = [
+    pub const ALL: [Refusal; 12] = [
         Refusal::NoSlot,
         Refusal::NotPresent,
         Refusal::AtClosing,
@@ -44,6 +46,7 @@ impl Refusal {
         Refusal::NoRow,
         Refusal::Unsound,
         Refusal::NoTerm,
+        Refusal::BadEdition,
     ];
 
     /// The number that the call gave.
@@ -72,6 +75,7 @@ impl fmt::Display for Refusal {
             Refusal::NoRow => "no row in the columns of two terms",
             Refusal::Unsound => "state unsound, or state or answer of wrong length",
             Refusal::NoTerm => "no such term",
+            Refusal::BadEdition => "no such edition",
         })
     }
 }

@@ -1,16 +1,12 @@
 -- `spread::jump::next_filled` meets its contract: its shifts give the next multiple exactly, and what it asks of that multiple is what the jump asks.
-use Prim.Native.Nat.{ℕ, suc, _+_, _-_, _*_, _/_, _%_, _^_, _≤_, _<_}
+use Prim.Native.Nat.{ℕ, _-_, _*_, _/_, _%_, _^_, _≤_, _<_}
 use mathlib.Core.Path.{_≡_, sym, ap, _∙_}
-use native.Mathlib.Numerals.{add-one}
 use native.Mathlib.Omega.{arith}
 use borrow.Author.Needs.{needs}
 use lib.Pow.{pow-mono, shr-le}
 use Rattle.bits.specs.Bit.{bit}
 use Rattle.bits.specs.Order.{order}
-use Rattle.bits.specs.Trailing.{trailing}
-use Rattle.bits.proofs.TrailingLaws.{trailing-lt}
 use Rattle.bits.proofs.ShiftLaws.{shifted}
-use Rattle.spread.specs.Sequence.{term}
 use Rattle.spread.specs.Visits.{columnAt}
 use Rattle.spread.specs.Jump.{multiple}
 use Rattle.spread.proofs.JumpLaws.{multiple-after}
@@ -70,38 +66,26 @@ returns c =
     let a = c .before .before .args in
     sym (jump-none (a .order) (a .union) (a .position) (omega (arith, c .if1 .taken, whole (c .before), first-is (c .before))))
 
-trailing-of-requires : tie.Need-trailing-of-requires
-trailing-of-requires c κs = first-pos (c .before)
-
 -- the candidate is a position of the order
 first-lt : (c : tie.Else1) → first (c .before) < 2 ^ c .before .before .args .order
 first-lt c = omega (arith, c .if1 .left, whole (c .before))
 
-zeros-lt : (c : tie.After-trailing-of) → c .trailing-of .result < c .before .before .before .args .order
-zeros-lt c =
-    let k = c .before .before .before .args .order in
-    omega (arith, c .trailing-of .ensures, trailing-lt k (first (c .before .before)) (first-pos (c .before .before)) (first-lt (c .before)))
-
-add-column : tie.Need-add-column
-add-column c = omega (arith, zeros-lt c)
-
-sub-column : tie.Need-sub-column
-sub-column c = omega (arith, zeros-lt c)
+column-at-requires : tie.Need-column-at-requires
+column-at-requires c κs = (c .before .before .pre .2, first-pos (c .before), first-lt c)
 
 shr-if2 : tie.Need-shr-if2
 shr-if2 c = search needs
 
 -- the bit that the code looks at is that of the candidate's column
-asked : (c : tie.After-trailing-of) → c .before .before .before .args .union / 2 ^ (c .before .before .before .args .order - (c .trailing-of .result + 1)) % 2
+asked : (c : tie.After-column-at) → c .before .before .before .args .union / 2 ^ c .column-at .result % 2
     ≡ bit (columnAt (c .before .before .before .args .order) (candidate (c .before .before))) (c .before .before .before .args .union)
-unfolding bit columnAt term
+unfolding bit
 asked c =
     let a = c .before .before .before .args in
-    ap (λ (x : ℕ). a .union / 2 ^ (a .order - x) % 2)
-    (add-one (c .trailing-of .result) ∙ ap suc (c .trailing-of .ensures ∙ ap trailing (first-is (c .before .before))))
+    ap (λ (x : ℕ). a .union / 2 ^ x % 2) (c .column-at .ensures .0 ∙ ap (columnAt (a .order)) (first-is (c .before .before)))
 
 -- and the candidate stands before 2 to the order, as the jump asks first
-candidate-lt : (c : tie.After-trailing-of) → candidate (c .before .before) < 2 ^ c .before .before .before .args .order
+candidate-lt : (c : tie.After-column-at) → candidate (c .before .before) < 2 ^ c .before .before .before .args .order
 candidate-lt c = rw (← first-is (c .before .before)) (first-lt (c .before))
 
 returns-2 : tie.Need-returns-2
@@ -145,9 +129,7 @@ next-filled-spec =
     shl-first
     shl-if1
     returns
-    trailing-of-requires
-    add-column
-    sub-column
+    column-at-requires
     shr-if2
     returns-2
     shl-result

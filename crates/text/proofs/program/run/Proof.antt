@@ -6,9 +6,7 @@ use native.Mathlib.Omega.{arith}
 use lib.ListN.{length, take}
 use lib.Seq.{length-take-le}
 use borrow.Author.Needs.{needs}
-use Rattle.memory.specs.Memory.{freshMemory}
-use Rattle.text.specs.Lines.{linesOf}
-use Rattle.text.specs.Answers.{output, most, tooLong, Stands}
+use Rattle.text.specs.Answers.{most, tooLong}
 use Rattle.text.proofs.OutputLaws.{written-stands, start-fresh, lift-long, lift-short}
 use Rattle.text.proofs.program.run.Statement.{statement}
 use Rattle.text.proofs.program.run.Tie as tie
@@ -33,6 +31,9 @@ returns c =
 
 slice-aggregate-start : tie.Need-slice-aggregate-start
 slice-aggregate-start c = search needs
+
+cast-start : tie.Need-cast-start
+cast-start c = search needs
 
 start-requires : tie.Need-start-requires
 start-requires c κs = search needs
@@ -73,6 +74,7 @@ run-spec =
     same-length
     returns
     slice-aggregate-start
+    cast-start
     start-requires
     slice-aggregate-answer-all
     slice-aggregate-answer-all-2

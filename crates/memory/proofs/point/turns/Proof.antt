@@ -2,8 +2,8 @@
 use native.Mathlib.Omega.{arith}
 use borrow.Author.Needs.{needs}
 use Rattle.bits.proofs.ShiftLaws.{shifted}
-use Rattle.visits.proofs.step.turns.Statement.{statement}
-use Rattle.visits.proofs.step.turns.Tie as tie
+use Rattle.memory.proofs.point.turns.Statement.{statement}
+use Rattle.memory.proofs.point.turns.Tie as tie
 
 cast-result : tie.Need-cast-result
 cast-result c = search needs
