@@ -6,13 +6,15 @@
 //! - [`engine`], `linked` (feature `linked`), [`model`], [`history`], [`compare`], [`shrink`]: an engine under test is run beside the independent scheduler, call by
 //!   call, and every byte is compared.
 //! - [`random`], [`states`], [`damage`], [`shapes`], [`generate`]: what the compared runs are fed with.
-//! - [`plain`]: plain deficit round robin, to measure against; `pictures` (feature `linked`): the pictures in docs/.
+//! - [`plain`]: plain deficit round robin, to measure against; [`door`]: how long a door waits beside a drive; `pictures` (feature `linked`): the pictures in
+//!   docs/.
 //! - [`lift`], [`texts`]: the command program's text, from input bytes to output bytes, and texts to compare a real `lift` with.
 
 pub mod answers;
 pub mod check;
 pub mod compare;
 pub mod damage;
+pub mod door;
 pub mod engine;
 pub mod generate;
 pub mod history;

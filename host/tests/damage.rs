@@ -6,7 +6,7 @@ use host::check::record_by_record;
 use host::compare::run_all;
 use host::damage::{breakages, wrong_bytes};
 use host::history::{Call, History, Step};
-use host::layout::{is_sound_memory, to_bytes, KIND, LENGTH, LENGTHS, ROW_COUNT, TICKET};
+use host::layout::{is_sound_memory, to_bytes, EDITION, KIND, LENGTH, LENGTHS, ROW_COUNT, TICKET};
 use host::random::Random;
 use host::scheduler::{Scheduler, EDITIONS};
 use host::states;
@@ -130,7 +130,10 @@ fn damage_at_random() {
 fn bytes_at_random() {
     let mut random = Random::new(23);
     for seed in 0..200 {
-        let memory: Vec<u8> = (0..LENGTH).map(|_| random.number() as u8).collect();
+        let mut memory: Vec<u8> = (0..LENGTH).map(|_| random.number() as u8).collect();
+        if seed % 2 == 0 {
+            memory[EDITION.start] = random.pick(&[1, 2]);
+        }
         compare([history("bytes at random", seed, memory, &CALLS)]);
     }
     compare([history("all ones", 0, vec![0xff; LENGTH], &CALLS)]);

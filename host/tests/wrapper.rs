@@ -6,7 +6,10 @@ use std::error::Error;
 use host::layout::{fresh, is_sound_memory, to_bytes, LENGTH};
 use host::random::Random;
 use host::states;
-use uplink::{lead, term, Added, Closed, Memory, Opened, Refusal, Sent, Standing, Told};
+use uplink::entries::uplink_start;
+use uplink::{lead, term, Added, Closed, Edition, Memory, Opened, Refusal, Sent, Standing, Told};
+
+const EDITIONS: [Edition; 2] = [Edition::One, Edition::Two];
 
 #[test]
 fn checks_1_to_4_and_11() {
@@ -22,21 +25,54 @@ fn checks_1_to_4_and_11() {
 
 #[test]
 fn check_5() {
-    let mut memory = Memory::new();
-    for weight in [1, 4, 8, 3] {
-        let opened = memory.open(weight).unwrap();
-        for reference in 0..16 {
-            memory.put(opened.slot, opened.ticket, 1_014, reference).unwrap();
+    for edition in EDITIONS {
+        let mut memory = Memory::new(edition);
+        for weight in [1, 4, 8, 3] {
+            let opened = memory.open(weight).unwrap();
+            for reference in 0..16 {
+                memory.put(opened.slot, opened.ticket, 1_014, reference).unwrap();
+            }
+        }
+        let slots: Vec<u32> = (0..16).map(|_| memory.next().unwrap().slot).collect();
+        assert_eq!(slots, [2, 1, 2, 3, 2, 1, 2, 0, 3, 2, 1, 2, 3, 2, 1, 2]);
+    }
+}
+
+/// The drive's last record is sent at position 1. Edition 1 falls to order 1 and serves the door at once; edition 2 holds order 12, and the door is at
+/// position 2,048.
+#[test]
+fn the_edition_is_kept() {
+    for (edition, terms) in [(Edition::One, [1, 1]), (Edition::Two, [1, 2_047])] {
+        let mut memory = Memory::new(edition);
+        for weight in [4_095, 1] {
+            let opened = memory.open(weight).unwrap();
+            memory.put(opened.slot, opened.ticket, 100, 7).unwrap();
+        }
+        assert_eq!([0, 1].map(|_| memory.next().unwrap().terms), terms);
+        for edition in EDITIONS {
+            memory.start(edition);
+            assert_eq!(memory.bytes()[..], fresh(edition as u64));
         }
     }
-    let slots: Vec<u32> = (0..16).map(|_| memory.next().unwrap().slot).collect();
-    assert_eq!(slots, [2, 1, 2, 3, 2, 1, 2, 0, 3, 2, 1, 2, 3, 2, 1, 2]);
+}
+
+/// The C entry is given any number.
+#[test]
+fn another_edition_is_refused() {
+    let mut bytes: [u8; LENGTH] = to_bytes(&states::rich(2)).try_into().unwrap();
+    let before = bytes;
+    for edition in [0, 3, 257, u32::MAX] {
+        let number = unsafe { uplink_start(bytes.as_mut_ptr(), LENGTH, edition) };
+        assert_eq!((Refusal::from_number(number), bytes == before), (Some(Refusal::BadEdition), true));
+        let number = unsafe { uplink_start(bytes.as_mut_ptr(), LENGTH - 1, edition) };
+        assert_eq!((Refusal::from_number(number), bytes == before), (Some(Refusal::Unsound), true));
+    }
 }
 
 #[test]
 fn checks_6_to_10_and_12() {
     for (length, terms, starts) in [(1_014, [1, 2, 2], [true; 3]), (300, [1, 0, 0], [true, false, false])] {
-        let mut memory = Memory::new();
+        let mut memory = Memory::new(Edition::One);
         memory.open(9).unwrap();
         for reference in 0..3 {
             memory.put(0, 1, length, reference).unwrap();
@@ -46,7 +82,7 @@ fn checks_6_to_10_and_12() {
         assert_eq!(sent.iter().map(|sent| sent.started).collect::<Vec<_>>(), starts);
         assert_eq!(sent.iter().map(|sent| sent.serial).collect::<Vec<_>>(), [0, 1, 2]);
     }
-    let mut memory = Memory::default();
+    let mut memory = Memory::new(Edition::Two);
     assert_eq!(memory.open(4_095), Ok(Opened { slot: 0, ticket: 1 }));
     assert_eq!(memory.open(4_096), Err(Refusal::BadWeight));
     assert_eq!(memory.open(0), Err(Refusal::BadWeight));
@@ -63,7 +99,7 @@ fn checks_6_to_10_and_12() {
 
 #[test]
 fn a_channel_drains() {
-    let mut memory = Memory::new();
+    let mut memory = Memory::new(Edition::One);
     assert_eq!(memory.next(), Err(Refusal::NoneWaits));
     memory.open(5).unwrap();
     memory.put(0, 1, 600, 77).unwrap();
@@ -84,8 +120,9 @@ fn a_channel_drains() {
 #[test]
 fn any_bytes_and_numbers() {
     let mut random = Random::new(41);
-    for _ in 0..500 {
-        let mut bytes: [u8; LENGTH] = fresh().try_into().unwrap();
+    for turn in 0..500 {
+        let edition = EDITIONS[turn % 2];
+        let mut bytes: [u8; LENGTH] = fresh(edition as u64).try_into().unwrap();
         for _ in 0..random.below(20) {
             bytes[random.below(LENGTH as u64) as usize] = random.number() as u8;
         }
@@ -98,15 +135,15 @@ fn any_bytes_and_numbers() {
         let _ = memory.next();
         let _ = memory.ask(number() % 65, number());
         let _ = (lead(number(), number(), number(), number()), term(number(), number()));
-        memory.start();
-        assert_eq!(memory.bytes()[..], fresh());
+        memory.start(edition);
+        assert_eq!(memory.bytes()[..], fresh(edition as u64));
     }
 }
 
 /// Ask takes a memory that is only lent to be read.
 #[test]
 fn ask_reads_alone() {
-    let bytes: [u8; LENGTH] = to_bytes(&states::rich()).try_into().unwrap();
+    let bytes: [u8; LENGTH] = to_bytes(&states::rich(1)).try_into().unwrap();
     let memory = Memory::from_bytes(bytes);
     assert!(memory.is_sound());
     assert!((0..64).any(|slot| memory.ask(slot, 1).is_ok()));
@@ -118,13 +155,13 @@ fn a_refusal_is_an_error_with_a_text_of_its_own() {
     let texts: Vec<String> = Refusal::ALL.iter().map(|refusal| (refusal as &dyn Error).to_string()).collect();
     assert!(texts.iter().enumerate().all(|(place, text)| !text.is_empty() && !texts[..place].contains(text)), "{texts:?}");
     for number in 0..20 {
-        assert_eq!(Refusal::from_number(number).map(Refusal::number), (1..=11).contains(&number).then_some(number));
+        assert_eq!(Refusal::from_number(number).map(Refusal::number), (1..=12).contains(&number).then_some(number));
     }
 }
 
 #[test]
 fn a_memory_is_shown_in_a_few_words() {
-    let mut bytes: [u8; LENGTH] = fresh().try_into().unwrap();
+    let mut bytes: [u8; LENGTH] = fresh(1).try_into().unwrap();
     assert_eq!(format!("{:?}", Memory::from_bytes(bytes)), format!("Memory {{ length: {LENGTH}, sound: true, .. }}"));
     bytes[LENGTH - 1] = 1;
     assert_eq!(format!("{:?}", Memory::from_bytes(bytes)), format!("Memory {{ length: {LENGTH}, sound: false, .. }}"));

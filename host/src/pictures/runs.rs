@@ -1,6 +1,6 @@
 //! What pictures of sends are drawn from: the exported calls, and plain deficit round robin, on the same channels.
 
-use uplink::{term, Memory};
+use uplink::{term, Edition, Memory};
 
 use crate::layout;
 use crate::plain::Plain;
@@ -36,9 +36,9 @@ impl Load {
     }
 }
 
-/// So many sends of the exported calls. The load has to last for them: no row leaves before the last send.
+/// So many sends of the exported calls, in edition 1. The load has to last for them: no row leaves before the last send.
 pub fn smoothed(load: Load, sends: usize) -> Vec<(Sending, Scan)> {
-    let mut memory = Memory::new();
+    let mut memory = Memory::new(Edition::One);
     for &weight in load.weights {
         let opened = memory.open(weight).expect("a slot is free and the weight is in range");
         for reference in 0..load.records {
