@@ -18,7 +18,7 @@ static uint32_t refused(uint8_t *answer, size_t length, size_t right)
         return refused(answer, length, right); \
     }
 
-uint32_t uplink_start(uint8_t *s, size_t n)
+uint32_t uplink_start(uint8_t *s, size_t n, uint32_t e)
 {
     return UPLINK_UNSOUND;
 }

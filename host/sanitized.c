@@ -1,8 +1,8 @@
 /*
  * The C entries on memory that ends where nobody may touch the next byte: each call is made three times, on buffers that end at a
  * forbidden page, on buffers that begin behind one, and on buffers of just their length from malloc, and must do the same each time.
- * First comes a script whose answers are known, field by field; then calls at random, of which enough must be accepted. A refusal must
- * be one that the call can give, keep the state and write 0 to every field. Run as "sanitized [calls] [seed]"; host/README.md has the
+ * First comes a script whose answers are known, field by field; then calls at random in each edition, of which enough must be accepted. A
+ * refusal must be one that the call can give, keep the state and write 0 to every field. Run as "sanitized [calls] [seed]"; host/README.md has the
  * commands. Exits with 1 for a library that does anything else: refuses.c and keeps.c are two.
  */
 #define _DEFAULT_SOURCE
@@ -15,8 +15,8 @@
 #include "uplink.h"
 
 enum { PAGE = 4096, SPACE = 2 * PAGE, PLACES = 3, WIDEST = 64, PAINT = 0xa5 };
-/* The state ahead of its records, which take six bytes each. */
-enum { HEADS = UPLINK_STATE_LENGTH - 6 * UPLINK_SLOTS * UPLINK_ROOM };
+/* The state ahead of its records, which take six bytes each, and where its edition stands. */
+enum { HEADS = UPLINK_STATE_LENGTH - 6 * UPLINK_SLOTS * UPLINK_ROOM, EDITION = HEADS - 50 };
 enum kind { START, OPEN, PUT, CLOSE, NEXT, ASK, LEAD, TERM, KINDS };
 
 static const char *const names[KINDS] = {"start", "open", "put", "close", "next", "ask", "lead", "term"};
@@ -65,7 +65,7 @@ static uint32_t made(const struct call *c, uint8_t *state, uint8_t *answer)
     const uint32_t *n = c->numbers;
     size_t s = c->state_length, a = c->answer_length;
     switch (c->kind) {
-    case START: return uplink_start(state, s);
+    case START: return uplink_start(state, s, n[0]);
     case OPEN: return uplink_open(state, s, n[0], answer, a);
     case PUT: return uplink_put(state, s, n[0], n[1], n[2], n[3], answer, a);
     case CLOSE: return uplink_close(state, s, n[0], n[1], answer, a);
@@ -91,7 +91,7 @@ static void made_at(int place, const struct call *c, const uint8_t *before, stru
 /* The numbers that each call can give, by docs/ANSWERS.md, and 0 behind them. No sound state gives 9. */
 static int can_give(enum kind kind, uint32_t number)
 {
-    static const uint32_t numbers[KINDS][7] = {{10}, {10, 6, 7}, {10, 1, 2, 3, 4, 5}, {10, 1, 2, 3}, {10, 8}, {10, 1, 2}, {10, 6}, {10, 11}};
+    static const uint32_t numbers[KINDS][7] = {{10, 12}, {10, 6, 7}, {10, 1, 2, 3, 4, 5}, {10, 1, 2, 3}, {10, 8}, {10, 1, 2}, {10, 6}, {10, 11}};
     for (int i = 0; i < 7; i++)
         if (numbers[kind][i] == number)
             return 1;
@@ -104,6 +104,19 @@ static int all_are(uint8_t byte, const uint8_t *bytes, size_t length)
         if (bytes[i] != byte)
             return 0;
     return 1;
+}
+
+/* What is wrong with a Start, or NULL: another length gives 10, then an edition that is not 1 or 2 gives 12. */
+static const char *start_fault(const struct call *c, const struct left *left)
+{
+    uint32_t edition = c->numbers[0];
+    uint32_t right_number = c->state_length != UPLINK_STATE_LENGTH ? UPLINK_UNSOUND : edition == 1 || edition == 2 ? UPLINK_ACCEPTED : UPLINK_BAD_EDITION;
+    if (left->number != right_number)
+        return "another number than the edition and the length give";
+    if (right_number == UPLINK_ACCEPTED && (left->state[EDITION] != edition || !all_are(0, left->state, EDITION) ||
+                                            !all_are(0, left->state + EDITION + 1, UPLINK_STATE_LENGTH - EDITION - 1)))
+        return "the fresh state is not its edition and zeros";
+    return NULL;
 }
 
 /* What is wrong with a call, or NULL. */
@@ -122,8 +135,8 @@ static const char *fault(const struct call *c, const uint8_t *before, const stru
         return "the state is changed";
     if (refused && !all_are(0, left->answer, c->answer_length))
         return "a refusal leaves a field that is not 0";
-    if (c->kind == START && !refused && !all_are(0, left->state, c->state_length))
-        return "the fresh state is not all zeros";
+    if (c->kind == START)
+        return start_fault(c, left);
     return NULL;
 }
 
@@ -163,7 +176,7 @@ struct step {
 enum { HALF = UPLINK_GRANTED / 2 - UPLINK_FRAMING };
 
 static const struct step script[] = {
-    {START, {0}, 0, {0}},
+    {START, {1}, 0, {0}},
     {OPEN, {1}, 0, {0, 1}},
     {OPEN, {2}, 0, {1, 1}},
     {PUT, {0, 1, 1014, 7}, 0, {0, 1}},
@@ -177,8 +190,13 @@ static const struct step script[] = {
     {NEXT, {0}, UPLINK_NONE_WAITS, {0}},
     {CLOSE, {0, 1}, UPLINK_NOT_PRESENT, {0}},
     {OPEN, {3}, 0, {0, 2}},
+    {START, {0}, UPLINK_BAD_EDITION, {0}},
+    {START, {3}, UPLINK_BAD_EDITION, {0}},
+    {START, {257}, UPLINK_BAD_EDITION, {0}},
+    {START, {UINT32_MAX}, UPLINK_BAD_EDITION, {0}},
+    {ASK, {0, 2}, 0, {1, 3, 0, 0}},
 
-    {START, {0}, 0, {0}},
+    {START, {2}, 0, {0}},
     {OPEN, {3}, 0, {0, 1}},
     {PUT, {0, 1, 200, 1}, 0, {0, 1}},
     {PUT, {0, 1, 300, 0xfedcba98}, 0, {1, 2}},
@@ -230,6 +248,30 @@ static const struct step script[] = {
     {LEAD, {UPLINK_HEAVIEST, 0, 1, UINT32_MAX}, 0, {UINT32_MAX - 4094, 4094}},
     {LEAD, {0, 1, 1, 1}, UPLINK_BAD_WEIGHT, {0}},
     {LEAD, {1, 1, UPLINK_HEAVIEST + 1, 1}, UPLINK_BAD_WEIGHT, {0}},
+
+    /* A heavy row leaves at position 1. Edition 1 falls to order 1: one term each. Edition 2 holds order 12: position 2,048 is 2,047 terms on, and from there
+       the rest of the round is 2,047 terms and the next one's first is one more. */
+    {START, {1}, 0, {0}},
+    {OPEN, {UPLINK_HEAVIEST}, 0, {0, 1}},
+    {OPEN, {1}, 0, {1, 1}},
+    {PUT, {0, 1, 1014, 1}, 0, {0, 1}},
+    {PUT, {1, 1, 1014, 2}, 0, {0, 1}},
+    {PUT, {1, 1, 1014, 3}, 0, {1, 2}},
+    {NEXT, {0}, 0, {0, 1, 1014, 1, 0, 1, 1}},
+    {NEXT, {0}, 0, {1, 1, 1014, 2, 0, 1, 1}},
+    {NEXT, {0}, 0, {1, 1, 1014, 3, 1, 1, 1}},
+    {START, {2}, 0, {0}},
+    {OPEN, {UPLINK_HEAVIEST}, 0, {0, 1}},
+    {OPEN, {1}, 0, {1, 1}},
+    {PUT, {0, 1, 1014, 1}, 0, {0, 1}},
+    {PUT, {1, 1, 1014, 2}, 0, {0, 1}},
+    {PUT, {1, 1, 1014, 3}, 0, {1, 2}},
+    {PUT, {1, 1, 1014, 4}, 0, {2, 3}},
+    {NEXT, {0}, 0, {0, 1, 1014, 1, 0, 1, 1}},
+    {NEXT, {0}, 0, {1, 1, 1014, 2, 0, 1, 2047}},
+    {NEXT, {0}, 0, {1, 1, 1014, 3, 1, 1, 2048}},
+    {NEXT, {0}, 0, {1, 1, 1014, 4, 2, 1, 1}},
+    {NEXT, {0}, UPLINK_NONE_WAITS, {0}},
 };
 
 static uint8_t kept[SPACE]; /* the state that the calls go on from */
@@ -252,11 +294,14 @@ static void known(struct step step)
 
 static void run_script(void)
 {
+    memset(kept, 0, sizeof kept);
+    known((struct step){NEXT, {0}, UPLINK_UNSOUND, {0}});
     memset(kept, PAINT, sizeof kept);
     known((struct step){NEXT, {0}, UPLINK_UNSOUND, {0}});
+    known((struct step){START, {0}, UPLINK_BAD_EDITION, {0}});
     for (size_t i = 0; i < sizeof script / sizeof *script; i++)
         known(script[i]);
-    known((struct step){START, {0}, 0, {0}});
+    known((struct step){START, {2}, 0, {0}});
     for (uint32_t slot = 0; slot < UPLINK_SLOTS; slot++)
         known((struct step){OPEN, {1}, 0, {slot, 1}});
     known((struct step){OPEN, {1}, UPLINK_NONE_FREE, {0}});
@@ -276,13 +321,20 @@ static uint32_t below(uint32_t end)
     return (uint32_t)(seed >> 32) % end;
 }
 
+/* Mostly 1 or 2. */
+static uint32_t any_edition(void)
+{
+    static const uint32_t others[] = {0, 3, 257, 0x10002, UINT32_MAX};
+    return below(8) ? 1 + below(2) : others[below(5)];
+}
+
 /* Most calls can be accepted; one in sixteen has another length of state or answer, one in 2,000 is Start. */
 static struct call any_call(void)
 {
     static const enum kind kinds[16] = {OPEN, OPEN, PUT, PUT, PUT, PUT, PUT, PUT, CLOSE, NEXT, NEXT, NEXT, NEXT, ASK, LEAD, TERM};
     struct call c = {below(2000) == 0 ? START : kinds[below(16)], {0}, UPLINK_STATE_LENGTH, 0};
     c.answer_length = right[c.kind];
-    c.numbers[0] = c.kind == OPEN || c.kind == LEAD ? below(4097) : c.kind == TERM ? below(14) : below(65);
+    c.numbers[0] = c.kind == START ? any_edition() : c.kind == OPEN || c.kind == LEAD ? below(4097) : c.kind == TERM ? below(14) : below(65);
     c.numbers[1] = c.kind == TERM ? below(4097) : 1 + below(below(8) ? 2 : 6);
     c.numbers[2] = c.kind == LEAD ? below(4097) : below(8) ? 1 + below(UPLINK_LONGEST) : below(UPLINK_LONGEST + 2);
     c.numbers[3] = below(UINT32_MAX);
@@ -296,12 +348,13 @@ static struct call any_call(void)
 /* Of each kind at least one call in so many of all must be accepted; with the library it is twice as many. */
 static const unsigned long one_in[KINDS] = {6000, 50, 20, 120, 20, 120, 40, 250};
 
-static void run_at_random(unsigned long calls)
+/* They begin in an edition; a Start among them may take the other. */
+static void run_at_random(unsigned long calls, uint32_t edition)
 {
     static struct left left;
     static uint8_t before[SPACE];
     unsigned long accepted[KINDS] = {0};
-    memset(kept, 0, sizeof kept);
+    known((struct step){START, {edition}, 0, {0}});
     for (unsigned long i = 0; i < calls; i++) {
         struct call c = any_call();
         memcpy(before, kept, sizeof kept);
@@ -330,7 +383,8 @@ int main(int count, char **words)
         for (int which = 0; which < 2; which++)
             rooms[place][which] = forbidden();
     run_script();
-    run_at_random(calls);
+    run_at_random(calls / 2, 1);
+    run_at_random(calls - calls / 2, 2);
     printf("%lu known answers and %lu calls at random, each at %d places: no fault\n", steps, calls, PLACES);
     return 0;
 }

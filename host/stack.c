@@ -15,14 +15,14 @@ enum kind { NONE, START, OPEN, PUT, CLOSE, NEXT, ASK, LEAD, TERM, KINDS };
 static const char *const names[KINDS] = {"", "start", "open", "put", "close", "next", "ask", "lead", "term"};
 static unsigned char stack[ROOM];
 static uint8_t state[UPLINK_STATE_LENGTH], answer[64];
-static uint32_t slot, ticket;
+static uint32_t slot, ticket, edition;
 static enum kind asked;
 static ucontext_t here, there;
 
 static void call(void)
 {
     switch (asked) {
-    case START: uplink_start(state, sizeof state); break;
+    case START: uplink_start(state, sizeof state, edition); break;
     case OPEN: uplink_open(state, sizeof state, 5, answer, UPLINK_OPEN_LENGTH); break;
     case PUT: uplink_put(state, sizeof state, slot, ticket, 100, 7, answer, UPLINK_PUT_LENGTH); break;
     case CLOSE: uplink_close(state, sizeof state, slot, ticket, answer, UPLINK_CLOSE_LENGTH); break;
@@ -51,21 +51,32 @@ static long touched(enum kind kind)
     return ROOM - left;
 }
 
+/* A channel of a weight with so many records; the calls go to it from now on. */
+static void filled(uint32_t weight, uint32_t records)
+{
+    uplink_open(state, sizeof state, weight, answer, UPLINK_OPEN_LENGTH);
+    slot = uplink_field(answer, 0), ticket = uplink_field(answer, 1);
+    for (uint32_t record = 0; record < records; record++)
+        uplink_put(state, sizeof state, slot, ticket, 1000, record, answer, UPLINK_PUT_LENGTH);
+}
+
 int main(void)
 {
     const enum kind calls[] = {OPEN, ASK, PUT, NEXT, NEXT, NEXT, NEXT, NEXT, NEXT, NEXT, NEXT, CLOSE, LEAD, TERM, START};
     long none = touched(NONE), most[KINDS] = {0};
-    uplink_start(state, sizeof state);
-    for (uint32_t channel = 0; channel < 40; channel++) {
-        uplink_open(state, sizeof state, 1 + channel * 61 % 4095, answer, UPLINK_OPEN_LENGTH);
-        slot = uplink_field(answer, 0), ticket = uplink_field(answer, 1);
-        for (uint32_t record = 0; record < 8; record++)
-            uplink_put(state, sizeof state, slot, ticket, 1000, record, answer, UPLINK_PUT_LENGTH);
-    }
-    for (size_t i = 0; i < sizeof calls / sizeof *calls; i++) {
-        long bytes = touched(calls[i]) - none;
-        if (bytes > most[calls[i]])
-            most[calls[i]] = bytes;
+    /* In edition 2 twice: the second time a heavy row leaves with the first Next, and the others go through a round's end. */
+    for (int run = 0; run < 3; run++) {
+        edition = run == 0 ? 1 : 2;
+        uplink_start(state, sizeof state, edition);
+        if (run == 2)
+            filled(UPLINK_HEAVIEST, 1), filled(1, 12);
+        for (uint32_t channel = 0; channel < 40 && run < 2; channel++)
+            filled(1 + channel * 61 % 4095, 8);
+        for (size_t i = 0; i < sizeof calls / sizeof *calls; i++) {
+            long bytes = touched(calls[i]) - none;
+            if (bytes > most[calls[i]])
+                most[calls[i]] = bytes;
+        }
     }
     for (int kind = START; kind < KINDS; kind++)
         printf("%s %ld\n", names[kind], most[kind]);

@@ -1,4 +1,5 @@
-//! How long the exported calls take: `bench [--beside path/to/another/libdriver.a]`. Prints a table; docs/SPEED.md has it, and its picture is drawn from there.
+//! How long the exported calls take: `bench [--beside path/to/another/libdriver.a]`. Prints tables; docs/SPEED.md has the first, of edition 1, and its picture
+//! is drawn from there. The second is the same of edition 2, the third has single Nexts where edition 2 holds the order.
 //!
 //! All columns are measured in turn in the same run and are medians over many batches, so that their ratios mean something on any machine:
 //! - call: Next and Put in pairs, so that the fill stays the same, per call;
@@ -8,7 +9,8 @@
 //! - plain check: the memory checked record by record, straight on the bytes;
 //! - plain call: the independent scheduler's Next and Put with that check before each. It writes no bytes, which favours it.
 //!
-//! With another archive its call, next and check are measured between those of the linked one, and a second table has both and their ratios.
+//! With another archive its call, next and check are measured between those of the linked one, and one more table has both and their ratios. One from
+//! before document 02, §3, which knows no edition, is measured in edition 1.
 
 use std::env;
 use std::fmt::Write;
@@ -20,11 +22,12 @@ use std::time::Instant;
 use host::answers::{Fields, Sent};
 use host::check::record_by_record;
 use host::engine::Engine;
-use host::layout;
+use host::layout::{self, EDITION};
 use host::linked::{Entries, LINKED};
 use host::model::answer_fields;
 use host::pictures::speed::NAMES;
-use host::scheduler::{Scheduler, LONGEST};
+use host::scheduler::{Scheduler, EDITIONS, LONGEST};
+use host::states::door;
 
 const BATCHES: usize = 301;
 /// Repetitions in a batch.
@@ -57,17 +60,27 @@ fn main() -> ExitCode {
             return ExitCode::from(2);
         }
     }
-    let lines: Vec<Line> = FILLS.iter().map(|&(channels, records)| measured(channels, records, &archives)).collect();
-    print!("{}", table(&lines));
+    let of_editions = EDITIONS.map(|edition| {
+        let lines = FILLS.iter().map(|&(channels, records)| measured(edition, channels, records, &archives));
+        (edition, lines.collect::<Vec<Line>>())
+    });
+    println!("nanoseconds, medians; a call is half of a Next and Put pair");
+    for (edition, lines) in &of_editions {
+        print!("\n{}", table(*edition, lines));
+    }
+    print!("\n{}", held());
     if archives.len() > 1 {
-        print!("\n{}", beside(&lines));
+        println!("\nthe linked archive and the one beside it, and the linked one's time divided by the other's");
+        for (edition, lines) in &of_editions {
+            print!("\n{}", beside(*edition, lines));
+        }
     }
     ExitCode::SUCCESS
 }
 
 /// Channels of many weights, each with so many records of many lengths.
-fn filled(channels: u32, records: u32) -> Scheduler {
-    let mut scheduler = Scheduler::fresh(1);
+fn filled(edition: u64, channels: u32, records: u32) -> Scheduler {
+    let mut scheduler = Scheduler::fresh(edition);
     for channel in 0..channels {
         let opened = scheduler.open(1 + channel * 61 % 4_095).expect("a slot is free");
         for record in 0..records {
@@ -78,14 +91,13 @@ fn filled(channels: u32, records: u32) -> Scheduler {
     scheduler
 }
 
-fn measured(channels: u32, records: u32, archives: &[Entries]) -> Line {
-    let mut scheduler = filled(channels, records);
+fn measured(edition: u64, channels: u32, records: u32, archives: &[Entries]) -> Line {
+    let mut scheduler = filled(edition, channels, records);
     let bytes = layout::to_bytes(&scheduler);
-    let mut sides: Vec<Side> =
-        archives.iter().map(|&entries| Side { entries, memory: bytes.clone(), lent: bytes.clone(), times: Default::default() }).collect();
+    let mut sides: Vec<Option<Side>> = archives.iter().map(|&entries| Side::lent(entries, &bytes)).collect();
     let mut plain: [Vec<f64>; 3] = Default::default();
     for _ in 0..BATCHES {
-        for side in &mut sides {
+        for side in sides.iter_mut().flatten() {
             side.measure(channels > 0);
         }
         plain[0].push(batch(1, || read(&bytes)));
@@ -94,7 +106,8 @@ fn measured(channels: u32, records: u32, archives: &[Entries]) -> Line {
             plain[2].push(batch(2, || plain_pair(&mut scheduler, &bytes)));
         }
     }
-    Line { exported: sides.into_iter().map(|side| side.times.map(median)).collect(), plain: plain.map(median) }
+    let times = |side: Option<Side>| side.map_or([None; 3], |side| side.times.map(median));
+    Line { exported: sides.into_iter().map(times).collect(), plain: plain.map(median) }
 }
 
 /// Nanoseconds for each of the calls that one repetition makes.
@@ -120,7 +133,21 @@ struct Side {
     times: [Vec<f64>; 3],
 }
 
+/// Whether an archive takes a memory for sound: it then refuses slot 64 for itself.
+fn takes(mut entries: Entries, memory: &mut [u8]) -> bool {
+    entries.ask(memory, 64, 1, &mut [0; 16]) == 1
+}
+
 impl Side {
+    /// The archive with a memory of its own. One that knows no edition is lent edition 1's without that byte; none where it takes neither.
+    fn lent(entries: Entries, bytes: &[u8]) -> Option<Side> {
+        let mut memory = bytes.to_vec();
+        if !takes(entries, &mut memory) && memory[EDITION.start] == 1 {
+            memory[EDITION.start] = 0;
+        }
+        takes(entries, &mut memory).then(|| Side { entries, lent: memory.clone(), memory, times: Default::default() })
+    }
+
     fn measure(&mut self, sends: bool) {
         if sends {
             let pairs = batch(2, || self.pair());
@@ -179,35 +206,76 @@ fn read(bytes: &[u8]) {
     black_box(black_box(bytes).iter().fold(0, |all, &byte| all | byte));
 }
 
-/// A row of a table for each fill.
-fn rows(heads: &[&str], cells: impl Fn(&Line) -> Vec<String>, lines: &[Line]) -> String {
-    let mut text = format!("| channels x records | {} |\n{}|\n", heads.join(" | "), "|---".repeat(heads.len() + 1));
-    for (&(channels, records), line) in FILLS.iter().zip(lines) {
-        let _ = writeln!(text, "| {channels} x {records} | {} |", cells(line).join(" | "));
+/// Records that wait in the channel of weight 1, and Nexts in a row.
+const WAITING: usize = 8;
+const ROW: usize = 4;
+
+/// A Next of one row of weight 1, from the same memory each time: at its own order, and where a heavy row that has gone holds order 12 up. Each with the terms
+/// that it takes, and beside the ordinary one in edition 2.
+fn held() -> String {
+    let lengths = [LONGEST; WAITING];
+    let kept = [
+        ("edition 1, order 1", 1, Scheduler { edition: 1, ..door(1, 0, &lengths) }),
+        ("edition 2, order 1: an ordinary Next", 1, door(1, 0, &lengths)),
+        ("edition 2, order 12 after a heavy row has gone", 2_047, door(12, 1, &lengths)),
+        ("edition 2, order 12, through a round's end", 2_048, door(12, 2_048, &lengths)),
+    ];
+    let mut times: [Vec<f64>; 4] = Default::default();
+    for _ in 0..BATCHES {
+        for ((_, terms, scheduler), times) in kept.iter().zip(&mut times) {
+            times.push(next_from(&layout::to_bytes(scheduler), *terms));
+        }
+    }
+    let times = times.map(median);
+    let mut text = "| one row of weight 1 | terms | next | next / ordinary |\n|---|---|---|---|\n".to_string();
+    for ((name, terms, _), time) in kept.iter().zip(times) {
+        let _ = writeln!(text, "| {name} | {terms} | {} | {} |", shown(time, 0), ratio(time, times[1]));
     }
     text
 }
 
-fn table(lines: &[Line]) -> String {
+/// Nanoseconds of a Next from this memory, which takes so many terms.
+fn next_from(bytes: &[u8], terms: u32) -> f64 {
+    let mut sides = [(); ROW].map(|_| Side::lent(LINKED, bytes).expect("the linked archive takes a sound memory"));
+    let mut nanoseconds = 0;
+    for _ in 0..TIMES / ROW {
+        sides.iter_mut().for_each(|side| side.memory.copy_from_slice(bytes));
+        let begin = Instant::now();
+        let sent = sides.each_mut().map(Side::next);
+        nanoseconds += begin.elapsed().as_nanos();
+        assert!(sent.iter().all(|sent| sent.terms == terms));
+    }
+    nanoseconds as f64 / (TIMES / ROW * ROW) as f64
+}
+
+/// A row of a table for each fill. Those of edition 1 are named by their fill alone.
+fn rows(edition: u64, heads: &[&str], cells: impl Fn(&Line) -> Vec<String>, lines: &[Line]) -> String {
+    let mut text = format!("| channels x records | {} |\n{}|\n", heads.join(" | "), "|---".repeat(heads.len() + 1));
+    let name = if edition == 1 { String::new() } else { format!("edition {edition}: ") };
+    for (&(channels, records), line) in FILLS.iter().zip(lines) {
+        let _ = writeln!(text, "| {name}{channels} x {records} | {} |", cells(line).join(" | "));
+    }
+    text
+}
+
+fn table(edition: u64, lines: &[Line]) -> String {
     let ratios = ["call / read", "next / read", "check / read", "check / plain check", "call / plain call"];
     let cells = |line: &Line| {
         let times: Vec<Option<f64>> = line.exported[0].into_iter().chain(line.plain).collect();
         let ratios = [(0, 3), (1, 3), (2, 3), (2, 4), (0, 5)].map(|(over, under)| ratio(times[over], times[under]));
         times.into_iter().map(|time| shown(time, 0)).chain(ratios).collect()
     };
-    let text = rows(&NAMES.into_iter().chain(ratios).collect::<Vec<_>>(), cells, lines);
-    format!("nanoseconds, medians; a call is half of a Next and Put pair\n\n{text}")
+    rows(edition, &NAMES.into_iter().chain(ratios).collect::<Vec<_>>(), cells, lines)
 }
 
 /// The linked archive and the other, column by column.
-fn beside(lines: &[Line]) -> String {
+fn beside(edition: u64, lines: &[Line]) -> String {
     let heads = NAMES[..3].iter().flat_map(|name| [name.to_string(), format!("{name} beside"), "ratio".to_string()]).collect::<Vec<_>>();
     let cells = |line: &Line| {
         let pairs = line.exported[0].into_iter().zip(line.exported[1]);
         pairs.flat_map(|(own, other)| [shown(own, 0), shown(other, 0), ratio(own, other)]).collect()
     };
-    let text = rows(&heads.iter().map(String::as_str).collect::<Vec<_>>(), cells, lines);
-    format!("the linked archive and the one beside it, and the linked one's time divided by the other's\n\n{text}")
+    rows(edition, &heads.iter().map(String::as_str).collect::<Vec<_>>(), cells, lines)
 }
 
 fn ratio(over: Option<f64>, under: Option<f64>) -> String {
