@@ -193,7 +193,11 @@ pub fn state_call(scheduler: &mut Scheduler, call: &Call) -> Result<Vec<u32>, Re
         Call::Close { slot, ticket } => scheduler.close_sound(slot, ticket).map(|done| done.fields()),
         Call::Next => scheduler.next_sound().map(|done| done.fields()),
         Call::Ask { slot, ticket } => scheduler.ask_sound(slot, ticket).map(|done| done.fields()),
-        Call::Start { .. } | Call::Lead { .. } | Call::Term { .. } => Ok(Vec::new()),
+        Call::Start { edition } => Scheduler::start(edition).map(|fresh| {
+            *scheduler = fresh;
+            Vec::new()
+        }),
+        Call::Lead { .. } | Call::Term { .. } => Ok(Vec::new()),
     }
 }
 

@@ -112,12 +112,9 @@ impl Builder {
     /// Adds the call and makes it on the history's own scheduler.
     fn push(&mut self, call: Call) {
         self.steps.push(Step::Call(call));
-        if let Call::Start { edition } = call {
-            if let Ok(fresh) = Scheduler::start(edition) {
-                (self.now, self.sound) = (fresh, true);
-            }
-        } else if self.sound {
+        if self.sound || matches!(call, Call::Start { .. }) {
             let accepted = state_call(&mut self.now, &call).is_ok();
+            self.sound |= accepted;
             if let (Call::Close { slot, ticket }, true) = (call, accepted) {
                 self.old.push((slot, ticket));
             }

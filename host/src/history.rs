@@ -2,6 +2,9 @@
 
 use std::fmt;
 
+use crate::layout;
+use crate::scheduler::EDITIONS;
+
 #[derive(Clone, Copy, Debug, PartialEq, Eq)]
 pub enum Call {
     Start { edition: u32 },
@@ -115,7 +118,11 @@ pub struct History {
 
 impl fmt::Display for History {
     fn fmt(&self, out: &mut fmt::Formatter) -> fmt::Result {
-        for (line, bytes) in self.memory.chunks(64).enumerate() {
+        let fresh = EDITIONS.into_iter().find(|&edition| self.memory == layout::fresh(edition));
+        if let Some(edition) = fresh {
+            writeln!(out, "# start {edition}")?;
+        }
+        for (line, bytes) in self.memory.chunks(64).enumerate().filter(|_| fresh.is_none()) {
             if bytes.iter().any(|&byte| byte != 0) {
                 let hexadecimal: String = bytes.iter().map(|byte| format!("{byte:02x}")).collect();
                 writeln!(out, "# memory from byte {}: {hexadecimal}", 64 * line)?;
