@@ -1,5 +1,5 @@
 //! Makes a history that shows a difference shorter: steps are removed, openings with all that belongs to them, channels of the memory it
-//! begins with, and numbers are made plainer, as long as some difference is left.
+//! begins with, and numbers are made plainer, as long as some difference is left. One that stays long, as where a pool has to be filled first, begins later.
 
 use std::collections::HashMap;
 
@@ -7,12 +7,15 @@ use crate::compare::{run, state_call, Difference};
 use crate::engine::Engine;
 use crate::history::{Call, History, Step};
 use crate::layout::{self, EDITION};
+use crate::model::Model;
 use crate::scheduler::{Channel, Scheduler, LONGEST, SLOTS};
 
 /// Steps that may be run while shrinking, so that a long history does not hold up the report.
 const STEPS: usize = 400_000;
 /// Histories up to this length are tried without each two of their steps.
 const SHORT: usize = 40;
+/// Longer ones are begun later.
+const LONG: usize = 20;
 
 /// The shortest history found and its difference, which shows at its last step.
 pub fn shrink<E: Engine + ?Sized>(engine: &mut E, history: History, difference: Difference) -> (History, Difference) {
@@ -25,16 +28,12 @@ pub fn shrink<E: Engine + ?Sized>(engine: &mut E, history: History, difference: 
     });
     search.remove_steps();
     search.remove_channels();
-    loop {
-        let before = search.best.steps.len();
-        search.remove_openings();
-        search.make_plainer();
-        search.remove_steps();
-        search.remove_pairs();
-        if search.best.steps.len() == before {
-            return (search.best, search.difference);
-        }
+    search.remove_all();
+    if search.begin_later() {
+        search.remove_channels();
+        search.remove_all();
     }
+    (search.best, search.difference)
 }
 
 struct Search<'e, E: ?Sized> {
@@ -58,6 +57,29 @@ impl<E: Engine + ?Sized> Search<'_, E> {
                 true
             }
         }
+    }
+
+    /// All that can go but the beginning, until nothing more goes.
+    fn remove_all(&mut self) {
+        let mut before = usize::MAX;
+        while self.best.steps.len() < before {
+            before = self.best.steps.len();
+            self.remove_openings();
+            self.make_plainer();
+            self.remove_steps();
+            self.remove_pairs();
+        }
+    }
+
+    /// A long history begins with the memory that all but its last few steps leave.
+    fn begin_later(&mut self) -> bool {
+        let count = self.best.steps.len();
+        let few: &[usize] = if count > LONG { &[1, 2, 4, 8, 16] } else { &[] };
+        few.iter().any(|kept| {
+            let (first, last) = self.best.steps.split_at(count - kept);
+            let (memory, steps) = (memory_after(&self.best.memory, first), last.to_vec());
+            self.keep_if_it_differs(History { memory, steps, ..self.best.clone() })
+        })
     }
 
     /// Removes runs of steps, long runs first, until no single step can go.
@@ -124,6 +146,21 @@ impl<E: Engine + ?Sized> Search<'_, E> {
             });
         }
     }
+}
+
+/// What steps leave of a memory, by the documents.
+fn memory_after(memory: &[u8], steps: &[Step]) -> Vec<u8> {
+    let mut memory = memory.to_vec();
+    for step in steps {
+        match step {
+            Step::Call(call) => {
+                Model.call(call, &mut memory, &mut vec![0; call.answer_length()]);
+            }
+            Step::Damage { place, flip } => memory[*place] ^= flip,
+            Step::Mislent { .. } => {}
+        }
+    }
+    memory
 }
 
 /// The same call with plainer numbers, plainest first.
