@@ -2,14 +2,14 @@
  * uplink.h - the scheduler of a lift adapter's uplink, for its driver in C.
  *
  * The scheduler keeps nothing of its own: every call is lent the whole state, UPLINK_STATE_LENGTH bytes, which
- * uplink_start makes fresh (memory of zeros is no state). Each call checks that memory whole before it acts. The result of a call is its number:
- * 0 if it was accepted, else one of enum uplink_refusal, and then the state keeps every byte and the answer's fields
- * are 0. An answer is a lent buffer of an exact length; its fields are 4 bytes each, lowest byte first, and
- * uplink_field reads one (uplink_lead: one field of 8 bytes, two's complement, read by uplink_signed). A buffer of
- * another length gives UPLINK_UNSOUND before all else and keeps its bytes. State and answer must not overlap. No
- * alignment is asked for. docs/ANSWERS.md has every byte.
+ * uplink_start makes fresh (memory of zeros is no state). Each call checks that memory whole before it acts. The
+ * result of a call is its number: 0 if it was accepted, else one of enum uplink_refusal, and then the state keeps
+ * every byte and the answer's fields are 0. An answer is a lent buffer of an exact length; its fields are 4 bytes
+ * each, lowest byte first, and uplink_field reads one (uplink_lead: one field of 8 bytes, two's complement, read by
+ * uplink_signed). A buffer of another length gives UPLINK_UNSOUND before all else and keeps its bytes. State and
+ * answer must not overlap. No alignment is asked for. docs/ANSWERS.md has every byte.
  *
- * Work: a call reads the state about once; uplink_put and uplink_next then move up to 6,138 bytes of it by one place.
+ * Work: a call reads the state about once; uplink_put and uplink_next then move up to 3,066 bytes of it by one place.
  * Every loop has a bound, whatever bytes are lent; no call allocates, blocks, recurses or keeps a pointer. Stack: 512
  * bytes are enough for any call.
  *
@@ -31,10 +31,10 @@ extern "C" {
 #endif
 
 /* Version of this interface: major * 10000 + minor * 100 + patch. */
-#define UPLINK_VERSION 20000
+#define UPLINK_VERSION 30000
 
 /* Lengths in bytes of the lent state and of each call's answer. */
-#define UPLINK_STATE_LENGTH 7040
+#define UPLINK_STATE_LENGTH 3968
 #define UPLINK_OPEN_LENGTH 8
 #define UPLINK_PUT_LENGTH 8
 #define UPLINK_CLOSE_LENGTH 4
@@ -53,11 +53,18 @@ extern "C" {
 
 /*
  * Lengths of records are 1 to UPLINK_LONGEST bytes, without framing. A record costs its channel its length and
- * UPLINK_FRAMING, which is what it takes on the link. At most UPLINK_ROOM records wait in a channel.
+ * UPLINK_FRAMING, which is what it takes on the link.
  */
 #define UPLINK_LONGEST 1014
 #define UPLINK_FRAMING 10
-#define UPLINK_ROOM 16
+
+/*
+ * At most UPLINK_ROOM records wait in a channel. UPLINK_KEPT cells are kept for every slot, so a channel with fewer
+ * records is never refused for room; beyond that all channels share UPLINK_SHARED cells.
+ */
+#define UPLINK_ROOM 64
+#define UPLINK_KEPT 2
+#define UPLINK_SHARED 384
 
 /* References are 0 to UPLINK_REFERENCES - 1. Serials are 0 to UPLINK_SERIALS - 1, and then 0 again. */
 #define UPLINK_REFERENCES 4294967296
@@ -84,7 +91,7 @@ enum uplink_refusal {
     UPLINK_NOT_PRESENT = 2,  /* slot free, or ticket not its present one */
     UPLINK_AT_CLOSING = 3,   /* channel is closing */
     UPLINK_BAD_LENGTH = 4,   /* length 0 or above 1,014 */
-    UPLINK_FULL = 5,         /* 16 records wait already */
+    UPLINK_FULL = 5,         /* 64 records wait already */
     UPLINK_BAD_WEIGHT = 6,   /* weight 0 or above 4,095 */
     UPLINK_NONE_FREE = 7,    /* no slot can be opened */
     UPLINK_NONE_WAITS = 8,   /* no record waits */
@@ -92,11 +99,12 @@ enum uplink_refusal {
     UPLINK_UNSOUND = 10,     /* lent state unsound or of wrong length; answer buffer of wrong length */
     UPLINK_NO_TERM = 11,     /* order not 1 to 12, or position not 1 to 2^order - 1 */
     UPLINK_BAD_EDITION = 12, /* edition not 1 or 2 */
+    UPLINK_NO_SHARED = 13,   /* two records or more wait, and no shared cell is free */
 };
 
 /*
- * Makes the lent memory the fresh state of an edition, UPLINK_FALLING or UPLINK_HOLDING: all slots free, all zeros but the
- * edition. Refused for its length, then for another edition, whatever else stands there.
+ * Makes the lent memory the fresh state of an edition, UPLINK_FALLING or UPLINK_HOLDING: all slots free, all zeros but
+ * the edition. Refused for its length, then for another edition, whatever else stands there.
  */
 uint32_t uplink_start(uint8_t *state, size_t state_length, uint32_t edition);
 
@@ -166,6 +174,7 @@ static inline const char *uplink_text(uint32_t number)
     case UPLINK_UNSOUND: return "state unsound, or state or answer of wrong length";
     case UPLINK_NO_TERM: return "no such term";
     case UPLINK_BAD_EDITION: return "no such edition";
+    case UPLINK_NO_SHARED: return "no shared cell left";
     default: return "not a number of these calls";
     }
 }

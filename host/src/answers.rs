@@ -1,5 +1,5 @@
-//! The answers of the calls and the numbers sent back (document 01, "The calls" and "Numbers sent back"; the longest length and the last number are
-//! document 02's), for the independent scheduler: written from the documents, not taken from the wrapper.
+//! The answers of the calls and the numbers sent back (document 01, "The calls" and "Numbers sent back"; the longest length, the room and the
+//! last two numbers are document 02's), for the independent scheduler: written from the documents, not taken from the wrapper.
 
 /// Why a call is refused: the documents' number, under the header's name.
 #[derive(Clone, Copy, Debug, PartialEq, Eq)]
@@ -12,7 +12,7 @@ pub enum Refusal {
     AtClosing = 3,
     /// "length 0 or above 1,014"
     BadLength = 4,
-    /// "16 records wait already"
+    /// "at 64 waiting"
     Full = 5,
     /// "weight 0 or above 4,095"
     BadWeight = 6,
@@ -28,10 +28,12 @@ pub enum Refusal {
     NoTerm = 11,
     /// "edition not 1 or 2"
     BadEdition = 12,
+    /// "exactly when the channel has two or more and the sum is 384"
+    NoShared = 13,
 }
 
 impl Refusal {
-    pub const ALL: [Refusal; 12] = [
+    pub const ALL: [Refusal; 13] = [
         Refusal::NoSlot,
         Refusal::NotPresent,
         Refusal::AtClosing,
@@ -44,6 +46,7 @@ impl Refusal {
         Refusal::Unsound,
         Refusal::NoTerm,
         Refusal::BadEdition,
+        Refusal::NoShared,
     ];
 
     /// The documents' number.

@@ -2,10 +2,10 @@
 //! It answers as [`crate::layout::is_sound_memory`] does, by another way, and is what the benchmark measures against.
 
 use crate::layout::{
-    Field, COLUMN, DEFICIT, EDITION, KIND, LENGTH, LENGTHS, NEXT_SERIAL, NOTHING, ORDER, PLACES, POSITION, REFERENCES, ROWS, ROW_COUNT,
+    Field, CELLS, COLUMN, DEFICIT, EDITION, KIND, LENGTH, LENGTHS, NEXT_SERIAL, NOTHING, ORDER, POSITION, REFERENCES, ROWS, ROW_COUNT,
     TICKET, TO_VISIT, VISIT, WAITING, WEIGHT,
 };
-use crate::scheduler::{COLUMNS, FRAMING, LARGEST_WEIGHT, LONGEST, MOST_WAITING, SLOTS};
+use crate::scheduler::{COLUMNS, FRAMING, KEPT, LARGEST_WEIGHT, LONGEST, MOST_WAITING, SHARED, SLOTS};
 use crate::sound::{LARGEST_DEFICIT, LARGEST_IN_VISIT};
 
 /// What the check knows of one slot.
@@ -23,15 +23,20 @@ pub fn record_by_record(bytes: &[u8]) -> bool {
         return false;
     }
     let mut slots = [Slot::default(); SLOTS];
-    let mut place = 0;
+    let (mut cell, mut shared) = (0, SHARED);
     for (slot, known) in slots.iter_mut().enumerate() {
-        match check_slot(bytes, slot, place) {
+        // A slot takes of the shared cells what it has beyond its own two. None is short, so no record stands beyond the last cell.
+        match shared.checked_sub(small(bytes, &WAITING, slot).saturating_sub(KEPT)) {
+            Some(left) => shared = left,
+            None => return false,
+        }
+        match check_slot(bytes, slot, cell) {
             Some(found) => *known = found,
             None => return false,
         }
-        place += known.waiting;
+        cell += known.waiting;
     }
-    for unused in place..PLACES {
+    for unused in cell..CELLS {
         if number(bytes, &LENGTHS, unused) != 0 || number(bytes, &REFERENCES, unused) != 0 {
             return false;
         }
@@ -52,7 +57,7 @@ fn small(bytes: &[u8], field: &Field, lane: usize) -> usize {
 }
 
 /// The slot's own rules, and its records'.
-fn check_slot(bytes: &[u8], slot: usize, place: usize) -> Option<Slot> {
+fn check_slot(bytes: &[u8], slot: usize, cell: usize) -> Option<Slot> {
     let waiting = small(bytes, &WAITING, slot);
     let (weight, deficit) = (number(bytes, &WEIGHT, slot), number(bytes, &DEFICIT, slot));
     let held = number(bytes, &TICKET, slot) != 0 && (1..=LARGEST_WEIGHT).contains(&weight);
@@ -65,12 +70,12 @@ fn check_slot(bytes: &[u8], slot: usize, place: usize) -> Option<Slot> {
     if !holds || waiting > MOST_WAITING {
         return None;
     }
-    for at in place..place + waiting {
+    for at in cell..cell + waiting {
         if !(1..=LONGEST).contains(&number(bytes, &LENGTHS, at)) {
             return None;
         }
     }
-    let cost = if waiting > 0 { number(bytes, &LENGTHS, place) + FRAMING } else { 0 };
+    let cost = if waiting > 0 { number(bytes, &LENGTHS, cell) + FRAMING } else { 0 };
     let in_visit = small(bytes, &VISIT, 0) == slot + 1;
     let most = match (waiting, in_visit) {
         (0, _) => 0,

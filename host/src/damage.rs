@@ -1,10 +1,11 @@
 //! Memories that break a rule of soundness, by name: each rule alone where that can be, and bytes that stand for nothing.
 
-use crate::layout::{self, EDITION, KIND, LENGTHS, NOTHING, PLACES, REFERENCES, ROWS, ROW_COUNT, VISIT, WAITING};
+use crate::layout::{self, CELLS, EDITION, KIND, LENGTHS, NOTHING, REFERENCES, ROWS, ROW_COUNT, VISIT, WAITING};
+use crate::pool::{beyond_the_limit, full};
 use crate::random::Random;
 use crate::scheduler::{Kind, Record, Scheduler, EDITIONS, FRAMING};
 use crate::sound::Rule;
-use crate::states::{door, full, rich};
+use crate::states::{door, rich};
 
 /// A sound state changed so that it breaks exactly these rules.
 #[derive(Clone)]
@@ -63,7 +64,7 @@ fn visit_just_paid_for(random: &mut Random, state: &mut Scheduler) {
 
 /// Each rule over the plain structure, broken in turn, in both editions.
 pub fn breakages() -> Vec<Breakage> {
-    let of_both = |edition: u64| [of_channels(edition), of_rows(edition), of_the_scan(edition)].concat();
+    let of_both = |edition: u64| [of_channels(edition), of_the_pool(edition), of_rows(edition), of_the_scan(edition)].concat();
     let mut list: Vec<Breakage> = EDITIONS.into_iter().flat_map(of_both).collect();
     list.extend(of_edition_1());
     list.extend(of_edition_2());
@@ -91,15 +92,20 @@ fn of_channels(edition: u64) -> Vec<Breakage> {
         rich("a length is 1,015", &[Rule::Records], |state| state.channels[1].records[1].length = 1_015),
         rich("a length is 1,016", &[Rule::Records], |state| state.channels[3].records[2].length = 1_016),
         rich("a length is 1,024", &[Rule::Records], |state| state.channels[1].records[1].length = 1_024),
-        rich("a length is 65,535", &[Rule::Records], |state| state.channels[5].records[15].length = 65_535),
+        rich("a length is 65,535", &[Rule::Records], |state| state.channels[5].records[63].length = 65_535),
         rich("a head's length is 0", &[Rule::Records], |state| state.channels[63].records[0].length = 0),
-        rich("17 records wait", &[Rule::Records], |state| {
+        rich("65 records wait", &[Rule::Records], |state| {
             state.channels[5].records.push_back(Record { length: 1, reference: 1 });
         }),
         rich("a row's deficit is 1,024", &[Rule::Deficit], |state| state.channels[1].deficit = 1_024),
         rich("a row's deficit is 65,535", &[Rule::Deficit], |state| state.channels[5].deficit = 65_535),
         rich("a deficit where no record waits", &[Rule::Deficit], |state| state.channels[2].deficit = 1),
     ]
+}
+
+fn of_the_pool(edition: u64) -> Vec<Breakage> {
+    let breakage = |(name, rules, scheduler)| Breakage { name, rules, scheduler };
+    beyond_the_limit(edition).into_iter().map(breakage).collect()
 }
 
 fn of_rows(edition: u64) -> Vec<Breakage> {
@@ -256,8 +262,8 @@ fn wrong_bytes_of(edition: u64) -> Vec<(&'static str, Vec<u8>)> {
         bytes[place] = value;
         bytes
     };
-    // Rich has 5 rows and 24 records.
-    let (run, last) = (24, PLACES - 1);
+    // Rich has 5 rows and 72 records.
+    let (run, last) = (72, CELLS - 1);
     vec![
         ("a row after the rows", set(&rich, ROWS.at(5, 0), 1)),
         ("a row in the last place", set(&rich, ROWS.at(63, 0), 63)),
@@ -267,8 +273,9 @@ fn wrong_bytes_of(edition: u64) -> Vec<(&'static str, Vec<u8>)> {
         ("one record more than there are", set(&rich, WAITING.at(63, 0), 3)),
         ("one record fewer than there are", set(&rich, WAITING.at(63, 0), 1)),
         ("255 records of one channel", set(&rich, WAITING.at(1, 0), 255)),
-        ("more records than places", set(&full, WAITING.at(63, 0), 17)),
-        ("more records than places, at the first slot", set(&full, WAITING.at(0, 0), 255)),
+        ("more records than cells", set(&full, WAITING.at(63, 0), 9)),
+        ("more records than cells, at the first slot", set(&full, WAITING.at(0, 0), 64)),
+        ("more records than cells and room", set(&full, WAITING.at(0, 0), 255)),
         ("one row fewer", set(&rich, ROW_COUNT.start, 4)),
         ("one row more", set(&rich, ROW_COUNT.start, 6)),
         ("65 rows", set(&full, ROW_COUNT.start, 65)),
@@ -283,12 +290,12 @@ fn wrong_bytes_of(edition: u64) -> Vec<(&'static str, Vec<u8>)> {
         ("the last byte of the scan point's line", set(&rich, NOTHING.end() - 1, 128)),
         ("a length after the run", set(&rich, LENGTHS.at(run, 0), 1)),
         ("a length after the run, high byte", set(&rich, LENGTHS.at(run, 1), 1)),
-        ("a length in the last place", set(&rich, LENGTHS.at(last, 0), 255)),
-        ("a length in the last place, high byte", set(&fresh, LENGTHS.at(last, 1), 4)),
+        ("a length in the last cell", set(&rich, LENGTHS.at(last, 0), 255)),
+        ("a length in the last cell, high byte", set(&fresh, LENGTHS.at(last, 1), 4)),
         ("a reference after the run, byte 0", set(&rich, REFERENCES.at(run, 0), 1)),
         ("a reference after the run, byte 1", set(&rich, REFERENCES.at(run, 1), 1)),
         ("a reference after the run, byte 2", set(&rich, REFERENCES.at(run, 2), 1)),
         ("a reference after the run, byte 3", set(&rich, REFERENCES.at(run, 3), 1)),
-        ("a reference in the last place", set(&fresh, REFERENCES.at(last, 3), 128)),
+        ("a reference in the last cell", set(&fresh, REFERENCES.at(last, 3), 128)),
     ]
 }

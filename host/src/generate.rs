@@ -4,6 +4,7 @@ use crate::compare::state_call;
 use crate::damage::beyond_a_limit;
 use crate::history::{Call, History, Step};
 use crate::layout;
+use crate::pool::counted_elsewhere;
 use crate::random::Random;
 use crate::scheduler::{Channel, Kind, Record, Scheduler, COLUMNS, EDITIONS, FRAMING, GRANT, LAST_TICKET, LONGEST, SLOTS};
 use crate::shapes::{Action, Shape, SHAPES};
@@ -70,7 +71,7 @@ impl Builder {
     fn stretch(&mut self, wanted: impl Fn(Action) -> bool) {
         // The part that Put and Next have beside what the shape gives them.
         let (fill, drain) = self.random.pick(&[(4, 1), (1, 4), (1, 1)]);
-        for _ in 0..self.random.from_to(1, 80) {
+        for _ in 0..self.random.from_to(1, self.shape.long) {
             let action = self.choose(fill, drain);
             if wanted(action) {
                 self.act(action);
@@ -297,16 +298,13 @@ impl Builder {
     fn damage(&mut self) {
         let bytes = layout::to_bytes(&self.now);
         let mut damaged = bytes.clone();
-        if self.random.chance(1, 4) {
-            damaged = layout::to_bytes(&beyond_a_limit(&mut self.random, &self.now));
-        } else {
-            let place = match self.random.below(4) {
-                0 => self.place_in(0..layout::LENGTHS.start),
-                1 => self.place_in(layout::ROW_COUNT.start..layout::NOTHING.start),
-                2 => self.place_in(layout::NOTHING.places()),
-                _ => self.place_in(0..layout::LENGTH),
-            };
-            damaged[place] ^= if self.random.chance(1, 2) { 1 << self.random.below(8) } else { self.random.from_to(1, 255) as u8 };
+        match self.random.below(8) {
+            0 | 1 => damaged = layout::to_bytes(&beyond_a_limit(&mut self.random, &self.now)),
+            2 => damaged = counted_elsewhere(&mut self.random, &self.now),
+            _ => {
+                let place = self.any_place();
+                damaged[place] ^= if self.random.chance(1, 2) { 1 << self.random.below(8) } else { self.random.from_to(1, 255) as u8 };
+            }
         }
         let changed = (0..layout::LENGTH).filter(|&place| damaged[place] != bytes[place]);
         let changes: Vec<Step> = changed.map(|place| Step::Damage { place, flip: damaged[place] ^ bytes[place] }).collect();
@@ -322,6 +320,15 @@ impl Builder {
                 self.steps.extend(&changes);
                 self.sound = true;
             }
+        }
+    }
+
+    fn any_place(&mut self) -> usize {
+        match self.random.below(4) {
+            0 => self.place_in(0..layout::LENGTHS.start),
+            1 => self.place_in(layout::ROW_COUNT.start..layout::NOTHING.start),
+            2 => self.place_in(layout::NOTHING.places()),
+            _ => self.place_in(0..layout::LENGTH),
         }
     }
 

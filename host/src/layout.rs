@@ -1,4 +1,4 @@
-//! The lent memory: 7,040 bytes, as docs/LAYOUT.md gives them.
+//! The lent memory: 3,968 bytes, as docs/LAYOUT.md gives them. Cells are the places of one run, slot after slot and oldest first, so a sound state has one memory.
 //!
 //! The writer goes by the table of fields, the reader by lines of 64 bytes, so that a slip in one shows against the other.
 
@@ -32,11 +32,11 @@ pub const VISIT: Field = TO_VISIT.then("visit", 1, 1);
 pub const EDITION: Field = VISIT.then("edition", 1, 1);
 /// What is left of the scan point's line.
 pub const NOTHING: Field = EDITION.then("nothing", LINE - EDITION.end() % LINE, 1);
-pub const LENGTHS: Field = NOTHING.then("length", PLACES, 2);
-pub const REFERENCES: Field = LENGTHS.then("reference", PLACES, 4);
+pub const LENGTHS: Field = NOTHING.then("length", CELLS, 2);
+pub const REFERENCES: Field = LENGTHS.then("reference", CELLS, 4);
 
-/// Places for records, of all channels together.
-pub const PLACES: usize = 1_024;
+/// "Hold all records in 512 shared cells"
+pub const CELLS: usize = 512;
 pub const LENGTH: usize = REFERENCES.end();
 
 /// Every field, in the order of their places: together they are the whole memory.
@@ -122,13 +122,13 @@ pub fn to_bytes(scheduler: &Scheduler) -> Vec<u8> {
 /// Writes the memory of a state over as many bytes of any content.
 pub fn write(scheduler: &Scheduler, bytes: &mut [u8]) {
     bytes.fill(0);
-    let mut place = 0;
+    let mut cell = 0;
     for (slot, channel) in scheduler.channels.iter().enumerate() {
         write_channel(channel, slot, bytes);
         for record in &channel.records {
-            LENGTHS.write(bytes, place, record.length);
-            REFERENCES.write(bytes, place, record.reference);
-            place += 1;
+            LENGTHS.write(bytes, cell, record.length);
+            REFERENCES.write(bytes, cell, record.reference);
+            cell += 1;
         }
     }
     for (lane, &slot) in scheduler.rows.iter().enumerate() {
@@ -159,7 +159,7 @@ fn write_channel(channel: &Channel, slot: usize, bytes: &mut [u8]) {
 }
 
 /// The state that a memory stands for, sound or not. None for another length and where no state can be meant: a kind above 2,
-/// more than 64 rows, a visit above 64, more records than places.
+/// more than 64 rows, a visit above 64, more records than cells.
 pub fn from_bytes(bytes: &[u8]) -> Option<Scheduler> {
     if bytes.len() != LENGTH {
         return None;
@@ -168,7 +168,7 @@ pub fn from_bytes(bytes: &[u8]) -> Option<Scheduler> {
     let of_slot =
         |first: usize, lines: usize, slot: usize| (0..lines).rev().fold(0u64, |number, j| number * 256 + u64::from(line(first + j)[slot]));
     let mut channels = Vec::with_capacity(SLOTS);
-    let mut place = 0;
+    let mut cell = 0;
     for slot in 0..SLOTS {
         let kind = match line(1)[slot] {
             0 => Kind::Free,
@@ -179,8 +179,8 @@ pub fn from_bytes(bytes: &[u8]) -> Option<Scheduler> {
         let waiting = usize::from(line(2)[slot]);
         let (ticket, weight) = (of_slot(3, 4, slot), of_slot(7, 2, slot));
         let (deficit, next_serial) = (of_slot(9, 2, slot), of_slot(11, 2, slot));
-        let records = (place..place + waiting).map(|at| record(bytes, at)).collect::<Option<_>>()?;
-        place += waiting;
+        let records = (cell..cell + waiting).map(|at| record(bytes, at)).collect::<Option<_>>()?;
+        cell += waiting;
         channels.push(Channel { kind, ticket, weight, deficit, next_serial, records });
     }
     let rows = line(0).get(..usize::from(line(13)[0]))?.iter().map(|&slot| usize::from(slot)).collect();
@@ -188,13 +188,13 @@ pub fn from_bytes(bytes: &[u8]) -> Option<Scheduler> {
     Some(Scheduler { channels, rows, order, scan: scan(line(13))?, edition })
 }
 
-/// The record at a place of the run: a byte in each of six planes of 1,024.
-fn record(bytes: &[u8], place: usize) -> Option<Record> {
-    if place >= PLACES {
+/// The record in a cell of the run: a byte in each of six planes of 512.
+fn record(bytes: &[u8], cell: usize) -> Option<Record> {
+    if cell >= CELLS {
         return None;
     }
     let planes = &bytes[14 * 64..];
-    let plane = |number: usize| u64::from(planes[1_024 * number + place]);
+    let plane = |number: usize| u64::from(planes[512 * number + cell]);
     let length = plane(0) + 256 * plane(1);
     let reference = plane(2) + 256 * (plane(3) + 256 * (plane(4) + 256 * plane(5)));
     Some(Record { length, reference })

@@ -5,7 +5,7 @@
 //! - [`layout`]: the lent memory, written from and read into that scheduler; [`check`]: the same question asked record by record.
 //! - [`engine`], `linked` (feature `linked`), [`model`], [`history`], [`compare`], [`shrink`]: an engine under test is run beside the independent scheduler, call by
 //!   call, and every byte is compared.
-//! - [`random`], [`states`], [`damage`], [`shapes`], [`generate`]: what the compared runs are fed with.
+//! - [`random`], [`states`], [`pool`], [`damage`], [`shapes`], [`generate`]: what the compared runs are fed with.
 //! - [`plain`]: plain deficit round robin, to measure against; [`door`]: how long a door waits beside a drive; `pictures` (feature `linked`): the pictures in
 //!   docs/.
 //! - [`lift`], [`texts`]: the command program's text, from input bytes to output bytes, and texts to compare a real `lift` with.
@@ -26,6 +26,7 @@ pub mod model;
 #[cfg(feature = "linked")]
 pub mod pictures;
 pub mod plain;
+pub mod pool;
 pub mod random;
 pub mod scheduler;
 pub mod shapes;

@@ -1,5 +1,5 @@
-//! An independent scheduler, written from document 01 and from §1 and §3 of document 02 over plain structures: no byte layout, no code shared with
-//! the engine under test.
+//! An independent scheduler, written from document 01 and from §1, §3 and §4 of document 02 over plain structures: no byte layout, no code shared
+//! with the engine under test.
 //!
 //! The numbers are wider than the rules allow, so that a state that breaks a rule can be held too; [`Scheduler::sound`] tells them apart.
 
@@ -15,7 +15,11 @@ pub const COLUMNS: u64 = 12;
 pub const LONGEST: u64 = 1_014;
 /// What a record takes on the link beside its own bytes.
 pub const FRAMING: u64 = 10;
-pub const MOST_WAITING: usize = 16;
+/// "up to 64 a channel"
+pub const MOST_WAITING: usize = 64;
+/// "Two are kept for every slot and 384 shared"
+pub const KEPT: usize = 2;
+pub const SHARED: usize = 384;
 pub const GRANT: u64 = 1_024;
 /// Serials are counted modulo this: 65,535 is followed by 0.
 pub const SERIALS: u64 = 65_536;
@@ -171,7 +175,7 @@ impl Scheduler {
 
     pub fn put_sound(&mut self, slot: u32, ticket: u32, length: u32, reference: u32) -> Result<Added, Refusal> {
         let slot = self.look_up(slot, ticket)?;
-        let channel = &mut self.channels[slot];
+        let channel = &self.channels[slot];
         if channel.kind == Kind::Closing {
             return Err(Refusal::AtClosing);
         }
@@ -179,9 +183,14 @@ impl Scheduler {
         if length == 0 || length > LONGEST {
             return Err(Refusal::BadLength);
         }
+        // "5 at 64 waiting; 13 exactly when the channel has two or more and the sum is 384, after 5"
         if channel.records.len() >= MOST_WAITING {
             return Err(Refusal::Full);
         }
+        if channel.records.len() >= KEPT && self.shared_in_use() == SHARED {
+            return Err(Refusal::NoShared);
+        }
+        let channel = &mut self.channels[slot];
         let serial = channel.next_serial;
         channel.next_serial = (serial + 1) % SERIALS;
         channel.records.push_back(Record { length, reference: u64::from(reference) });
@@ -239,6 +248,13 @@ impl Scheduler {
             deficit: channel.deficit as u32,
             waiting: channel.records.len() as u32,
         })
+    }
+
+    /// "their use is the sum, over all channels, of records waiting beyond two": counted place by place of the queues. It is how many channels have a
+    /// third record, and how many a fourth, and so on, until none has one.
+    pub fn shared_in_use(&self) -> usize {
+        let have_one_at = |place: usize| self.channels.iter().filter(|channel| channel.records.get(place).is_some()).count();
+        (KEPT..).map(have_one_at).take_while(|&channels| channels > 0).sum()
     }
 
     /// The slot of a held channel whose present ticket this is.

@@ -1,5 +1,6 @@
 //! The shapes of generated histories: where one begins, what it is fed with, and how often each action comes.
 
+use crate::pool;
 use crate::random::Random;
 use crate::scheduler::{Scheduler, LONGEST};
 use crate::states;
@@ -39,6 +40,8 @@ pub struct Shape {
     pub deep: usize,
     pub weight: fn(&mut Random) -> u32,
     pub length: fn(&mut Random) -> u32,
+    /// Actions in a stretch at the most: fill, drain, or neither.
+    pub long: u64,
     /// How often each action comes, against the others.
     pub parts: &'static [(Action, u64)],
 }
@@ -144,6 +147,8 @@ const WRONG: &[(Action, u64)] = &[
 const RISES: &[(Action, u64)] = &[(Action::Open, 6), (Action::Put, 40), (Action::Next, 40), (Action::Rise, 8)];
 /// A channel is opened now and then; else records come and go.
 const TRAFFIC: &[(Action, u64)] = &[(Action::Open, 6), (Action::Put, 40), (Action::Close, 1), (Action::Next, 40)];
+/// Records come a little faster than they go, so that the limits are met.
+const FILL: &[(Action, u64)] = &[(Action::Open, 4), (Action::Put, 40), (Action::Close, 1), (Action::Next, 24)];
 const HARM: &[(Action, u64)] = &[(Action::Open, 6), (Action::Put, 20), (Action::Close, 3), (Action::Next, 20), (Action::Damage, 20)];
 const LENGTHS: &[(Action, u64)] = &[(Action::Open, 6), (Action::Put, 20), (Action::Close, 3), (Action::Next, 20), (Action::Mislent, 40)];
 const ALL: &[(Action, u64)] = &[
@@ -168,7 +173,7 @@ const fn shape(
     deep: usize,
     parts: &'static [(Action, u64)],
 ) -> Shape {
-    Shape { name, begin, channels, deep, weight: any_weight, length: any_length, parts }
+    Shape { name, begin, channels, deep, weight: any_weight, length: any_length, long: 80, parts }
 }
 
 pub const SHAPES: &[Shape] = &[
@@ -188,6 +193,13 @@ pub const SHAPES: &[Shape] = &[
     shape("bad numbers", unreached, 8, 16, WRONG),
     // More than there are slots: opening goes on when all are held.
     shape("no slot left", fresh, 150, 2, WRONG),
+    // Room and shared cells (document 02, §4): near the limits from the beginning, and filled from nothing.
+    shape("a channel is full", pool::any_full_channel, 4, 64, PLAIN),
+    shape("no shared cell left", pool::any_at_limit, 24, 64, PLAIN),
+    shape("bad numbers at the limits", pool::any_at_limit, 24, 64, WRONG),
+    shape("damage at the limits", pool::any_at_limit, 12, 64, HARM),
+    Shape { long: 200, ..shape("a channel fills and drains", fresh, 1, 64, FILL) },
+    Shape { length: short, long: 600, ..shape("the pool fills and drains", fresh, 40, 64, FILL) },
     shape("serial wrap", states::near_last_serial, 4, 16, PLAIN),
     shape("last ticket", states::near_last_ticket, 4, 4, STORM),
     shape("unreached states", unreached, 8, 16, PLAIN),

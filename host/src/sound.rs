@@ -1,19 +1,21 @@
-//! When a state is sound: document 01's list, one rule after the other, over the plain structure, and what document 02, §3 says of editions.
+//! When a state is sound: document 01's list, one rule after the other, over the plain structure, and what document 02 says of editions (§3)
+//! and of the shared cells (§4).
 //! Its last rule ("bytes that stand for nothing are 0") is about bytes and stands in [`crate::layout`].
 
 use crate::scheduler::{
-    Channel, Kind, Record, Scheduler, COLUMNS, EDITIONS, LARGEST_WEIGHT, LAST_TICKET, LONGEST, MOST_WAITING, SERIALS, SLOTS,
+    Channel, Kind, Record, Scheduler, COLUMNS, EDITIONS, LARGEST_WEIGHT, LAST_TICKET, LONGEST, MOST_WAITING, SERIALS, SHARED, SLOTS,
 };
 
 pub const LARGEST_DEFICIT: u64 = 1_023;
 pub const LARGEST_IN_VISIT: u64 = 2_046;
 
-/// The rules of the list, in its order, and the edition's.
+/// The rules of the list, in its order, with that of the shared cells beside the room's, and the edition's.
 #[derive(Clone, Copy, Debug, PartialEq, Eq)]
 pub enum Rule {
     Free,
     Held,
     Records,
+    Shared,
     Rows,
     Position,
     ToVisit,
@@ -33,6 +35,8 @@ impl Scheduler {
             (Rule::Free, self.channels.len() == SLOTS && self.channels.iter().all(free_is_empty)),
             (Rule::Held, self.channels.iter().all(held_is_in_range)),
             (Rule::Records, self.channels.iter().all(records_are_in_range)),
+            // "A sound state keeps both limits": a channel's is among the rules of its records.
+            (Rule::Shared, self.shared_in_use() <= SHARED),
             (Rule::Rows, self.rows_are_those_waiting() && self.order_is_of_the_rows()),
             (Rule::Position, self.position_is_in_range()),
             (Rule::ToVisit, self.list_is_of_the_column()),
@@ -122,7 +126,7 @@ fn held_is_in_range(channel: &Channel) -> bool {
     }
 }
 
-/// "lengths are in range and at most 16 records wait per channel"
+/// "lengths are in range and at most 16 records wait per channel"; document 02, §4 has "up to 64 a channel" for it
 fn records_are_in_range(channel: &Channel) -> bool {
     let in_range = |record: &Record| (1..=LONGEST).contains(&record.length) && record.reference <= u64::from(u32::MAX);
     channel.records.len() <= MOST_WAITING && channel.records.iter().all(in_range)

@@ -1,8 +1,9 @@
 //! Sound states built directly: any sound state at random, serials and tickets near their ends, and states that no history reaches but that
 //! must be served all the same. Each is of an edition.
 
+use crate::pool;
 use crate::random::Random;
-use crate::scheduler::{Channel, Kind, Record, Scheduler, COLUMNS, FRAMING, GRANT, LAST_TICKET, LONGEST, SLOTS};
+use crate::scheduler::{Channel, Kind, Record, Scheduler, COLUMNS, FRAMING, GRANT, KEPT, LAST_TICKET, LONGEST, SHARED, SLOTS};
 use crate::sound::LARGEST_IN_VISIT;
 
 /// A channel with records of these lengths.
@@ -22,8 +23,8 @@ pub fn with_rows(edition: u64, channels: &[(usize, Channel)], rows: &[usize]) ->
     scheduler
 }
 
-/// A state with something of everything: free slots used before, open ones with and without records, a closing one, rows in an order unlike
-/// the slots', slots to visit, and a visit of a row without the noted bit.
+/// A state with something of everything: free slots used before, open ones with and without records, a full one, a closing one, rows in an order
+/// unlike the slots', slots to visit, and a visit of a row without the noted bit.
 pub fn rich(edition: u64) -> Scheduler {
     let open = |ticket, weight, deficit, serial, lengths: &[u64]| channel(Kind::Open, ticket, weight, deficit, serial, lengths);
     let channels = [
@@ -31,7 +32,7 @@ pub fn rich(edition: u64) -> Scheduler {
         (1, open(1, 6, 0, 2, &[300, 1_014])),
         (2, open(3, 4_095, 0, 65_535, &[])),
         (3, channel(Kind::Closing, 9, 5, 1_023, 2, &[1, 1_013, 1_014])),
-        (5, open(LAST_TICKET, 12, 10, 16, &[64; 16])),
+        (5, open(LAST_TICKET, 12, 10, 16, &[64; 64])),
         (9, open(70_000, 4, 0, 1, &[1_014])),
         (63, open(2, 2, 800, 300, &[500, 600])),
     ];
@@ -40,18 +41,6 @@ pub fn rich(edition: u64) -> Scheduler {
     scheduler.scan.column = 2;
     scheduler.scan.to_visit = [1, 3].into();
     scheduler.scan.visit = Some(63);
-    scheduler
-}
-
-/// 64 channels of 16 records each; heads have serials from before the wrap.
-pub fn full(edition: u64) -> Scheduler {
-    let mut scheduler = Scheduler::fresh(edition);
-    for slot in 0..SLOTS {
-        let lengths: Vec<u64> = (0..16).map(|place| 1 + (slot as u64 * 97 + place * 131) % LONGEST).collect();
-        scheduler.channels[slot] = channel(Kind::Open, 1 + slot as u64, 1 + 64 * slot as u64, 0, 3, &lengths);
-    }
-    scheduler.rows = (0..SLOTS).map(|place| place * 37 % SLOTS).collect();
-    scheduler.order = scheduler.order_of_rows();
     scheduler
 }
 
@@ -65,7 +54,8 @@ pub fn door(order: u64, position: u64, lengths: &[u64]) -> Scheduler {
 
 /// Sound states that no history reaches, or that take very long to reach, by name.
 pub fn unreached(edition: u64) -> Vec<(&'static str, Scheduler)> {
-    let mut states = vec![("rich", rich(edition)), ("full", full(edition))];
+    let mut states = vec![("rich", rich(edition))];
+    states.extend(pool::at_the_limit(edition));
     if edition == 2 {
         states.extend(held());
     }
@@ -149,14 +139,28 @@ fn with_position(mut scheduler: Scheduler, position: u64) -> Scheduler {
 
 /// Any sound state: as many channels as asked at most, everything else at random.
 pub fn any_sound(random: &mut Random, edition: u64, most: u64) -> Scheduler {
-    let mut scheduler = Scheduler::fresh(edition);
-    let held = random.from_to(0, most);
-    let deep = random.from_to(1, 16);
-    for place in 0..SLOTS {
+    let held = random.from_to(0, most) as usize;
+    let deepest = random.pick(&[16, 16, 64]);
+    let deep = random.from_to(1, deepest);
+    let (mut waiting, mut shared) = ([None; SLOTS], SHARED);
+    for place in 0..held {
         let slot = if most < 64 { place } else { place * 29 % SLOTS };
-        let ticket = any_ticket(random);
-        let held_now = (place as u64) < held;
-        scheduler.channels[slot] = if held_now { any_channel(random, ticket, deep) } else { channel(Kind::Free, ticket, 0, 0, 0, &[]) };
+        let wanted = if random.chance(1, 4) { 0 } else { random.from_to(1, deep) as usize };
+        let count = wanted.min(KEPT + shared);
+        shared -= count.saturating_sub(KEPT);
+        waiting[slot] = Some(count);
+    }
+    any_with(random, edition, &waiting)
+}
+
+/// Any state with so many records waiting in each held channel, sound where these are within the limits.
+pub fn any_with(random: &mut Random, edition: u64, waiting: &[Option<usize>; SLOTS]) -> Scheduler {
+    let mut scheduler = Scheduler::fresh(edition);
+    for (free, count) in scheduler.channels.iter_mut().zip(waiting) {
+        free.ticket = any_ticket(random);
+        if let &Some(count) = count {
+            *free = any_channel(random, free.ticket, count);
+        }
     }
     let waits = |slot: &usize| !scheduler.channels[*slot].records.is_empty();
     scheduler.rows = (0..SLOTS).filter(waits).collect();
@@ -174,9 +178,8 @@ fn any_ticket(random: &mut Random) -> u64 {
     }
 }
 
-fn any_channel(random: &mut Random, ticket: u64, deep: u64) -> Channel {
+fn any_channel(random: &mut Random, ticket: u64, waiting: usize) -> Channel {
     let weight = if random.chance(1, 2) { random.from_to(1, 4_095) } else { 1 << random.below(12) };
-    let waiting = if random.chance(1, 4) { 0 } else { random.from_to(1, deep) };
     let lengths: Vec<u64> = (0..waiting).map(|_| any_length(random)).collect();
     let kind = if waiting > 0 && random.chance(1, 4) { Kind::Closing } else { Kind::Open };
     let deficit = if waiting == 0 { 0 } else { random.pick(&[0, 1, 511, 1_022, 1_023]) };

@@ -6,13 +6,13 @@ use host::compare::state_call;
 use host::generate::history;
 use host::history::{Call, Step};
 use host::layout;
-use host::scheduler::{cost_of, Kind, Scheduler, GRANT, LAST_TICKET, LONGEST};
+use host::scheduler::{cost_of, Kind, Scheduler, GRANT, KEPT, LAST_TICKET, LONGEST, MOST_WAITING, SHARED};
 use host::steps::Moment;
 
 type Count = BTreeMap<&'static str, u32>;
 
 /// Every corner that is looked for.
-const CORNERS: [&str; 49] = [
+const CORNERS: [&str; 65] = [
     "order falls with slots to visit",
     "P becomes 0 after a fall, with rows",
     "P is 2^k - 1 after a fall",
@@ -46,6 +46,23 @@ const CORNERS: [&str; 49] = [
     "3 where 4 would be given too",
     "a channel is freed at once",
     "a channel begins to drain",
+    // Of the shared cells.
+    "the 64th record is taken",
+    "5 with shared cells left",
+    "5 where 13 would be given too",
+    "4 where 13 would be given too",
+    "3 where 13 would be given too",
+    "13 to a channel of two",
+    "13 to a channel of 63",
+    "the sum goes from 382 to 383",
+    "the sum goes from 383 to 384",
+    "a channel of none is given one with the sum at 384",
+    "a channel of one is given one with the sum at 384",
+    "the sum goes from 384 to 383",
+    "the sum stays at 384 with a send",
+    "a closing channel sends with the sum at 384",
+    "every cell is taken",
+    "a channel closes with the sum at 384",
     // Of edition 2.
     "the order is held when a row leaves",
     "P is not reduced when a row leaves",
@@ -91,7 +108,7 @@ fn histories_meet_every_corner() {
     for (corner, times) in count {
         assert!(times >= 20, "{corner}: {times}");
     }
-    let (start, open, put) = (("start", &[0, 12][..]), ("open", &[0, 6, 7][..]), ("put", &[0, 1, 2, 3, 4, 5][..]));
+    let (start, open, put) = (("start", &[0, 12][..]), ("open", &[0, 6, 7][..]), ("put", &[0, 1, 2, 3, 4, 5, 13][..]));
     for (call, list) in [start, open, put, ("close", &[0, 1, 2, 3]), ("next", &[0, 8]), ("ask", &[0, 1, 2])] {
         for &number in list {
             assert!(numbers.get(&(call, number)).is_some_and(|&times| times >= 20), "{call} with number {number}");
@@ -118,9 +135,11 @@ fn look(before: &Scheduler, after: &Scheduler, call: &Call, result: &Result<Vec<
         (Call::Put { slot, length, .. }, Ok(fields)) => {
             met("a length of 1,014 is taken", *length == 1_014);
             look_at_put(before, after, *slot as usize, fields, &mut met);
+            look_at_cells_taken(before, after, fields[1] as usize, &mut met);
         }
         (Call::Next, Ok(fields)) => {
             look_at_next(before, after, fields, &mut met);
+            look_at_cells_left(before, after, fields[0] as usize, &mut met);
             if before.edition == 2 {
                 look_at_the_round(before, after, fields[6], &mut met);
             }
@@ -135,10 +154,13 @@ fn look(before: &Scheduler, after: &Scheduler, call: &Call, result: &Result<Vec<
         }
         (Call::Put { slot, length, .. }, Err(number)) if *slot < 64 => {
             met("a length of 1,015 is refused", *number == 4 && *length == 1_015);
-            met("4 where 5 would be given too", *number == 4 && before.channels[*slot as usize].records.len() == 16);
+            let waiting = before.channels[*slot as usize].records.len();
+            met("4 where 5 would be given too", *number == 4 && waiting == MOST_WAITING);
+            look_at_limits(*number, waiting, before.shared_in_use(), &mut met);
             met("3 where 4 would be given too", *number == 3 && !(1..=LONGEST).contains(&u64::from(*length)));
         }
         (Call::Close { .. }, Ok(fields)) => {
+            met("a channel closes with the sum at 384", before.shared_in_use() == SHARED);
             met("a channel is freed at once", fields[0] == 1);
             met("a channel begins to drain", fields[0] == 0);
         }
@@ -159,6 +181,37 @@ fn look_at_put(before: &Scheduler, after: &Scheduler, slot: usize, fields: &[u32
     let of_the_column = after.channels[slot].weight >> scan.column & 1 == 1;
     met("a row of the noted column joins in the scan", joins && !scan.to_visit.is_empty() && of_the_column);
     met("a serial wraps", fields[0] == 65_535);
+}
+
+/// A record was taken, and so many wait now.
+fn look_at_cells_taken(before: &Scheduler, after: &Scheduler, waiting: usize, met: &mut impl FnMut(&'static str, bool)) {
+    let (was, is) = (before.shared_in_use(), after.shared_in_use());
+    met("the 64th record is taken", waiting == 64);
+    met("the sum goes from 382 to 383", (was, is) == (382, 383));
+    met("the sum goes from 383 to 384", (was, is) == (383, 384));
+    met("a channel of none is given one with the sum at 384", was == 384 && waiting == 1);
+    met("a channel of one is given one with the sum at 384", was == 384 && waiting == 2);
+    met("every cell is taken", after.channels.iter().map(|channel| channel.records.len()).sum::<usize>() == 512);
+    assert_eq!(is - was, usize::from(waiting > KEPT), "a third record and each after it takes a shared cell");
+}
+
+/// A channel of so many records is refused one more.
+fn look_at_limits(number: u32, waiting: usize, shared: usize, met: &mut impl FnMut(&'static str, bool)) {
+    let none_left = waiting >= KEPT && shared == SHARED;
+    met("5 with shared cells left", number == 5 && !none_left);
+    met("5 where 13 would be given too", number == 5 && none_left);
+    met("4 where 13 would be given too", number == 4 && none_left && waiting < MOST_WAITING);
+    met("3 where 13 would be given too", number == 3 && none_left && waiting < MOST_WAITING);
+    met("13 to a channel of two", number == 13 && waiting == 2);
+    met("13 to a channel of 63", number == 13 && waiting == 63);
+}
+
+/// A record of the slot was sent.
+fn look_at_cells_left(before: &Scheduler, after: &Scheduler, slot: usize, met: &mut impl FnMut(&'static str, bool)) {
+    let (was, is) = (before.shared_in_use(), after.shared_in_use());
+    met("the sum goes from 384 to 383", (was, is) == (384, 383));
+    met("the sum stays at 384 with a send", (was, is) == (384, 384));
+    met("a closing channel sends with the sum at 384", was == 384 && before.channels[slot].kind == Kind::Closing);
 }
 
 fn look_at_next(before: &Scheduler, after: &Scheduler, fields: &[u32], met: &mut impl FnMut(&'static str, bool)) {

@@ -7,6 +7,7 @@ use host::compare::run_all;
 use host::damage::{breakages, wrong_bytes};
 use host::history::{Call, History, Step};
 use host::layout::{is_sound_memory, to_bytes, EDITION, KIND, LENGTH, LENGTHS, ROW_COUNT, TICKET};
+use host::pool;
 use host::random::Random;
 use host::scheduler::{Scheduler, EDITIONS};
 use host::states;
@@ -90,7 +91,8 @@ fn each_byte_flipped() {
         ("fresh", Scheduler::fresh(1)),
         ("rich", states::rich(1)),
         ("rich", states::rich(2)),
-        ("full", states::full(1)),
+        ("full", pool::full(1)),
+        ("at the limits", pool::any_at_limit(&mut random, 2)),
         ("any", any),
         ("door", door),
     ] {
@@ -116,7 +118,10 @@ fn damage_at_random() {
     let mut random = Random::new(22);
     for seed in 0..4_000 {
         let most = random.pick(&[2, 8, 64]);
-        let mut memory = to_bytes(&states::any_sound(&mut random, EDITIONS[seed as usize % 2], most));
+        let edition = EDITIONS[seed as usize % 2];
+        let any =
+            if random.chance(1, 4) { pool::any_at_limit(&mut random, edition) } else { states::any_sound(&mut random, edition, most) };
+        let mut memory = to_bytes(&any);
         for _ in 0..random.from_to(1, 4) {
             let end = random.pick(&[KIND.start, TICKET.start, ROW_COUNT.start, LENGTHS.start, LENGTH]);
             let place = random.below(end as u64) as usize;

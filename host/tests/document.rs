@@ -1,4 +1,4 @@
-//! Document 01's own checks, with document 02's lengths, on the independent scheduler and on the engine under test, in both editions: no check has a
+//! Document 01's own checks, with document 02's lengths and room, on the independent scheduler and on the engine under test, in both editions: no check has a
 //! round's end, or a row that leaves beside others.
 
 mod calls;
@@ -71,10 +71,10 @@ fn check_9_lengths() {
 }
 
 #[test]
-fn check_10_the_17th_record() {
+fn check_10_the_65th_record() {
     in_both_editions(|calls, edition| {
-        calls.fill(edition, &[1], 15, 1);
-        assert_eq!(calls.put(0, 1, 1, 7), Ok(Added { serial: 15, waiting: 16 }));
+        calls.fill(edition, &[1], 63, 1);
+        assert_eq!(calls.put(0, 1, 1, 7), Ok(Added { serial: 63, waiting: 64 }));
         assert_eq!(calls.put(0, 1, 1, 7), Err(Refusal::Full));
     });
 }

@@ -1,9 +1,10 @@
 //! The lent memory: where each byte stands, writer against reader, and the two checks against each other.
 
 use host::check::record_by_record;
-use host::layout::{fresh, from_bytes, is_sound_memory, name_of, to_bytes, EDITION, LENGTH, LENGTHS, TICKET, TO_VISIT};
+use host::layout::{fresh, from_bytes, is_sound_memory, name_of, to_bytes, CELLS, EDITION, LENGTH, LENGTHS, TICKET, TO_VISIT};
+use host::pool;
 use host::random::Random;
-use host::scheduler::{Scheduler, EDITIONS};
+use host::scheduler::{Scheduler, EDITIONS, KEPT, SHARED, SLOTS};
 use host::states;
 
 #[test]
@@ -18,6 +19,15 @@ fn the_fresh_state_is_all_zeros_beside_the_edition() {
         assert!(!is_sound_memory(&[&zeros[..], &[0]].concat()));
     }
     assert!(!is_sound_memory(&[]));
+}
+
+/// "Hold all records in 512 shared cells ... Two are kept for every slot and 384 shared"
+#[test]
+fn there_is_a_cell_for_each_record_within_the_limits() {
+    assert_eq!((CELLS, SLOTS * KEPT + SHARED), (512, 512));
+    assert_eq!((LENGTH, 896 + 6 * CELLS), (3_968, 3_968));
+    let full = pool::full(1);
+    assert_eq!((full.shared_in_use(), full.channels.iter().map(|channel| channel.records.len()).sum::<usize>()), (SHARED, CELLS));
 }
 
 /// Every byte of a small state, written down by hand from the layout page.
@@ -47,11 +57,11 @@ fn a_state_by_hand() {
         (578, 2), (642, 1), (581, 3), (645, 2),
         (706, 0xfe), (770, 0xff), (709, 9),
         (832, 2), (833, 12), (834, 0x89), (835, 0x07), (837, 4), (845, 6), (846, 2),
-        (896, 2), (897, 4), (898, 5), (1_920, 1), (1_921, 3),
-        (2_944, 0x44), (2_945, 0x88), (2_946, 0xcc),
-        (3_968, 0x33), (3_969, 0x77), (3_970, 0xbb),
-        (4_992, 0x22), (4_993, 0x66), (4_994, 0xaa),
-        (6_016, 0x11), (6_017, 0x55), (6_018, 0x99),
+        (896, 2), (897, 4), (898, 5), (1_408, 1), (1_409, 3),
+        (1_920, 0x44), (1_921, 0x88), (1_922, 0xcc),
+        (2_432, 0x33), (2_433, 0x77), (2_434, 0xbb),
+        (2_944, 0x22), (2_945, 0x66), (2_946, 0xaa),
+        (3_456, 0x11), (3_457, 0x55), (3_458, 0x99),
     ];
     for &(place, byte) in places {
         expected[place] = byte;
@@ -74,7 +84,7 @@ fn each_byte_has_a_name() {
     assert_eq!(name_of(192 + 64 + 3), "ticket, lane 3, byte 1");
     assert_eq!((name_of(846), name_of(847)), ("edition, lane 0, byte 0".to_string(), "nothing, lane 0, byte 0".to_string()));
     assert_eq!(name_of(895), "nothing, lane 48, byte 0");
-    assert_eq!(name_of(LENGTH - 1), "reference, lane 1023, byte 3");
+    assert_eq!(name_of(LENGTH - 1), "reference, lane 511, byte 3");
     assert!((0..LENGTH).all(|place| name_of(place) != name_of(LENGTH)));
 }
 
@@ -83,7 +93,12 @@ fn sound_states_round_trip() {
     let mut random = Random::new(11);
     for round in 0..2_000 {
         let most = random.pick(&[1, 4, 30, 64]);
-        let scheduler = states::any_sound(&mut random, 1 + round % 2, most);
+        let edition = 1 + round % 2;
+        let scheduler = match round % 5 {
+            3 => pool::any_at_limit(&mut random, edition),
+            4 => pool::any_full_channel(&mut random, edition),
+            _ => states::any_sound(&mut random, edition, most),
+        };
         assert_eq!(scheduler.broken(), [], "round {round}");
         let bytes = to_bytes(&scheduler);
         assert_eq!(from_bytes(&bytes).as_ref(), Some(&scheduler));

@@ -6,6 +6,7 @@ use host::compare::run_all;
 use host::damage::breakages;
 use host::history::{Call, History, Step};
 use host::layout::{to_bytes, LENGTH, LENGTHS};
+use host::pool;
 use host::scheduler::EDITIONS;
 use host::states;
 
@@ -27,8 +28,9 @@ const CALLS: [Call; 14] = [
     Call::Term { order: 0, position: 4 },
 ];
 
-const STATE_LENGTHS: [usize; 14] =
-    [0, 1, 28, 63, 64, LENGTHS.start, LENGTH / 2, LENGTH - 2, LENGTH - 1, LENGTH, LENGTH + 1, LENGTH + 64, 8_192, 2 * LENGTH];
+/// 7,040 bytes have cells for 16 records in each of 64 channels.
+const STATE_LENGTHS: [usize; 15] =
+    [0, 1, 28, 63, 64, LENGTHS.start, LENGTH / 2, LENGTH - 2, LENGTH - 1, LENGTH, LENGTH + 1, LENGTH + 64, 4_096, 7_040, 2 * LENGTH];
 
 fn compare(memory: Vec<u8>) -> u64 {
     let mut steps = Vec::new();
@@ -56,7 +58,7 @@ fn compare(memory: Vec<u8>) -> u64 {
 fn of_a_sound_state() {
     for edition in EDITIONS {
         assert!(compare(to_bytes(&states::rich(edition))) > 10_000);
-        assert!(compare(to_bytes(&states::full(edition))) > 10_000);
+        assert!(compare(to_bytes(&pool::full(edition))) > 10_000);
     }
 }
 

@@ -87,7 +87,7 @@ fn checks_6_to_10_and_12() {
     assert_eq!(memory.open(4_096), Err(Refusal::BadWeight));
     assert_eq!(memory.open(0), Err(Refusal::BadWeight));
     assert_eq!(memory.put(0, 1, 1_015, 7), Err(Refusal::BadLength));
-    for waiting in 1..=16 {
+    for waiting in 1..=64 {
         assert_eq!(memory.put(0, 1, 1_014, 7), Ok(Added { serial: waiting - 1, waiting }));
     }
     assert_eq!(memory.put(0, 1, 1_014, 7), Err(Refusal::Full));
@@ -95,6 +95,24 @@ fn checks_6_to_10_and_12() {
         assert_eq!(memory.open(1), Ok(Opened { slot, ticket: 1 }));
     }
     assert_eq!(memory.open(1), Err(Refusal::NoneFree));
+}
+
+/// Document 02, §4: six channels of 64 and one of 14 share 384 cells. A full channel is refused for its room, one of two for the cells.
+#[test]
+fn shared_cells() {
+    let mut memory = Memory::new(Edition::Two);
+    for (slot, records) in [64, 64, 64, 64, 64, 64, 14, 2].into_iter().enumerate() {
+        memory.open(1).unwrap();
+        for waiting in 1..=records {
+            assert_eq!(memory.put(slot as u32, 1, 1_014, waiting), Ok(Added { serial: waiting - 1, waiting }));
+        }
+    }
+    assert_eq!([0, 6, 7].map(|slot| memory.put(slot, 1, 1, 0)), [Refusal::Full, Refusal::NoShared, Refusal::NoShared].map(Err));
+    assert_eq!(Refusal::NoShared.number(), 13);
+    assert_eq!(memory.next().map(|sent| sent.slot), Ok(0));
+    assert_eq!(memory.put(7, 1, 1, 0), Ok(Added { serial: 2, waiting: 3 }));
+    assert_eq!(memory.put(0, 1, 1, 0), Err(Refusal::NoShared));
+    assert!(memory.is_sound());
 }
 
 #[test]
@@ -155,7 +173,7 @@ fn a_refusal_is_an_error_with_a_text_of_its_own() {
     let texts: Vec<String> = Refusal::ALL.iter().map(|refusal| (refusal as &dyn Error).to_string()).collect();
     assert!(texts.iter().enumerate().all(|(place, text)| !text.is_empty() && !texts[..place].contains(text)), "{texts:?}");
     for number in 0..20 {
-        assert_eq!(Refusal::from_number(number).map(Refusal::number), (1..=12).contains(&number).then_some(number));
+        assert_eq!(Refusal::from_number(number).map(Refusal::number), (1..=13).contains(&number).then_some(number));
     }
 }
 

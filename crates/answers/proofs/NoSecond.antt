@@ -19,6 +19,7 @@ refusalOf answer.noRow = refusal.NoRow
 refusalOf answer.unsound = refusal.Unsound
 refusalOf answer.noTerm = refusal.NoTerm
 refusalOf answer.badEdition = refusal.BadEdition
+refusalOf answer.noShared = refusal.NoShared
 
 back : (r : Refusal) → refusalOf (refusalTold r) ≡ r
 unfolding refusalOf
@@ -34,6 +35,7 @@ back refusal.NoRow = refl
 back refusal.Unsound = refl
 back refusal.NoTerm = refl
 back refusal.BadEdition = refl
+back refusal.NoShared = refl
 
 pub refusal-told-once : (p q : Refusal) → refusalTold p ≡ refusalTold q → p ≡ q
 refusal-told-once p q e = sym (back p) ∙ ap refusalOf e ∙ back q

@@ -16,3 +16,4 @@ refusalTold refusal.NoRow = answer.noRow
 refusalTold refusal.Unsound = answer.unsound
 refusalTold refusal.NoTerm = answer.noTerm
 refusalTold refusal.BadEdition = answer.badEdition
+refusalTold refusal.NoShared = answer.noShared

@@ -20,6 +20,7 @@ pub enum Refusal {
     Unsound,
     NoTerm,
     BadEdition,
+    NoShared,
 }
 
 // The number of a refusal, by document 01's table.
@@ -39,5 +40,6 @@ pub fn number_of(why: Refusal) -> u32
         Refusal::Unsound => 10,
         Refusal::NoTerm => 11,
         Refusal::BadEdition => 12,
+        Refusal::NoShared => 13,
     }
 }

@@ -16,7 +16,7 @@ use Rattle.bits.specs.Trailing.{trailing, trailingIn}
 use Rattle.spread.specs.Sequence.{term}
 use Rattle.spread.specs.Visits.{columnAt}
 use Rattle.rules.specs.Numbers.{holding, longest}
-use Rattle.rules.specs.State.{cost, State, fresh, at, orderOf, columnOf, roundOver}
+use Rattle.rules.specs.State.{cost, State, fresh, at, orderOf, columnOf, roundOver, sharedUse}
 use Rattle.rules.specs.Calls.{lowest, openCall, putCall, Call, toOpen, toPut, toNext, reply, step, run}
 use Rattle.rules.specs.Next.{scanning, nextCall}
 use Rattle.rules.specs.Facts.{Sound}
@@ -85,11 +85,11 @@ abbrev pub heldRound : List Moment
 heldRound = aTerm ∷ aVisit ∷ aSend ∷ aTerm ∷ aVisit ∷ aSend ∷ aTerm ∷ aVisit ∷ aSend ∷ anEnd ∷ []
 
 ten-moments : momentsAlong twoHeld three ≡ heldRound
-unfolding joined twoHeld three cost bit order orderIn trailing trailingIn term columnAt fresh orderOf columnOf roundOver lowest openCall putCall scanning nextCall reply step run moved movedBy scanMoments momentsOf momentsAlong
+unfolding joined twoHeld three cost bit order orderIn trailing trailingIn term columnAt fresh orderOf columnOf roundOver lowest openCall putCall scanning nextCall reply step run moved movedBy scanMoments momentsOf momentsAlong sharedUse
 ten-moments = refl
 
 pub held-round : MomentsRound twoHeld heldRound
-unfolding joined twoHeld cost bit order orderIn trailing trailingIn term columnAt fresh orderOf columnOf roundOver lowest openCall putCall reply step run moved movedBy momentsTotal no-visit-open either-end at-an-end starts-or-not inside
+unfolding joined twoHeld cost bit order orderIn trailing trailingIn term columnAt fresh orderOf columnOf roundOver lowest openCall putCall reply step run moved movedBy momentsTotal no-visit-open either-end at-an-end starts-or-not inside sharedUse
 held-round =
     record {
       starts = starts-there twoHeld refl;
@@ -99,15 +99,15 @@ held-round =
     }
 
 pub held-order : twoHeld .order ≡ 2
-unfolding joined twoHeld order orderIn fresh orderOf lowest openCall putCall reply step run
+unfolding joined twoHeld order orderIn fresh orderOf lowest openCall putCall reply step run sharedUse
 held-order = refl
 
 pub first-waits : Steady 2 0 twoHeld heldRound
-unfolding joined twoHeld cost bit order orderIn trailing trailingIn term columnAt fresh orderOf columnOf roundOver lowest openCall putCall reply step run moved movedBy waitsBefore
+unfolding joined twoHeld cost bit order orderIn trailing trailingIn term columnAt fresh orderOf columnOf roundOver lowest openCall putCall reply step run moved movedBy waitsBefore sharedUse
 first-waits = record { before = before-there 2 0 twoHeld heldRound refl; last = record { order-is = λ g. refl; waits = refl } }
 
 pub second-waits : Steady 2 1 twoHeld heldRound
-unfolding joined twoHeld cost bit order orderIn trailing trailingIn term columnAt fresh orderOf columnOf roundOver lowest openCall putCall reply step run moved movedBy waitsBefore
+unfolding joined twoHeld cost bit order orderIn trailing trailingIn term columnAt fresh orderOf columnOf roundOver lowest openCall putCall reply step run moved movedBy waitsBefore sharedUse
 second-waits = record { before = before-there 2 1 twoHeld heldRound refl; last = record { order-is = λ g. refl; waits = refl } }
 
 two-sound : Sound twoHeld
@@ -125,7 +125,7 @@ both : (total (visitsOf 0) twoHeld three ≡ at (twoHeld .channels) 0 .weight) �
 both = (promised 0 first-waits, promised 1 second-waits)
 
 numbers : (total (visitsOf 0) twoHeld three ≡ 2) × (total (visitsOf 1) twoHeld three ≡ 1) × (total (costOf 0) twoHeld three ≡ 2048) × (total (costOf 1) twoHeld three ≡ 1024)
-unfolding joined twoHeld three cost bit order orderIn trailing trailingIn term columnAt fresh orderOf columnOf roundOver lowest openCall putCall scanning nextCall reply step run total
+unfolding joined twoHeld three cost bit order orderIn trailing trailingIn term columnAt fresh orderOf columnOf roundOver lowest openCall putCall scanning nextCall reply step run total sharedUse
 numbers = (refl, refl, refl, refl)
 
 -- ---- a round inside one call: weights 8 and 1, slot 0 gone with its one record. The call takes seven terms that find no row, ends that round, and its next
@@ -145,11 +145,11 @@ abbrev pub smallRound : List Moment
 smallRound = aTerm ∷ aVisit ∷ aSend ∷ anEnd ∷ []
 
 one-call : momentsAlong light (toNext ∷ []) ≡ oldEnd ++ (smallRound ++ [])
-unfolding light cost bit order orderIn trailing trailingIn term columnAt fresh orderOf columnOf roundOver lowest openCall putCall scanning nextCall reply step run moved movedBy scanMoments momentsOf momentsAlong
+unfolding light cost bit order orderIn trailing trailingIn term columnAt fresh orderOf columnOf roundOver lowest openCall putCall scanning nextCall reply step run moved movedBy scanMoments momentsOf momentsAlong sharedUse
 one-call = refl
 
 pub inside-round : MomentsRound (movedBy light oldEnd) smallRound
-unfolding light cost bit order orderIn trailing trailingIn term columnAt fresh orderOf columnOf roundOver lowest openCall putCall scanning nextCall reply step run moved movedBy momentsTotal no-visit-open either-end at-an-end starts-or-not inside
+unfolding light cost bit order orderIn trailing trailingIn term columnAt fresh orderOf columnOf roundOver lowest openCall putCall scanning nextCall reply step run moved movedBy momentsTotal no-visit-open either-end at-an-end starts-or-not inside sharedUse
 inside-round =
     record {
       starts = starts-there (movedBy light oldEnd) refl;
@@ -159,11 +159,11 @@ inside-round =
     }
 
 inside-order : movedBy light oldEnd .order ≡ 1
-unfolding light cost bit order orderIn trailing trailingIn term columnAt fresh orderOf columnOf roundOver lowest openCall putCall scanning nextCall reply step run moved movedBy
+unfolding light cost bit order orderIn trailing trailingIn term columnAt fresh orderOf columnOf roundOver lowest openCall putCall scanning nextCall reply step run moved movedBy sharedUse
 inside-order = refl
 
 pub inside-waits : Steady 1 1 (movedBy light oldEnd) smallRound
-unfolding light cost bit order orderIn trailing trailingIn term columnAt fresh orderOf columnOf roundOver lowest openCall putCall scanning nextCall reply step run moved movedBy waitsBefore
+unfolding light cost bit order orderIn trailing trailingIn term columnAt fresh orderOf columnOf roundOver lowest openCall putCall scanning nextCall reply step run moved movedBy waitsBefore sharedUse
 inside-waits = record { before = before-there 1 1 (movedBy light oldEnd) smallRound refl; last = record { order-is = λ g. refl; waits = refl } }
 
 light-sound : Sound light

@@ -56,6 +56,7 @@ ungranted S v =
       part = S .part;
       no-column = S .no-column;
       end-ok = tt;
+      pool = S .pool;
     }
 
 -- a term that comes to no round's end leaves a state at rest

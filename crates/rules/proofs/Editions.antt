@@ -12,7 +12,7 @@ use Rattle.spread.specs.Sequence.{term}
 use Rattle.spread.specs.Visits.{columnAt}
 use Rattle.answers.specs.Answer.{number}
 use Rattle.rules.specs.Numbers.{longest}
-use Rattle.rules.specs.State.{State, fresh, cost, roundOver, orderOf, columnOf}
+use Rattle.rules.specs.State.{State, fresh, cost, roundOver, orderOf, columnOf, sharedUse}
 use Rattle.rules.specs.Sound.{sound}
 use Rattle.rules.specs.Calls.{lowest, openCall, putCall, closeCall, startCall, Call, toOpen, toPut, toClose, toNext, reply, step, run}
 use Rattle.rules.specs.Next.{scanning, nextCall}
@@ -31,7 +31,7 @@ held-order : sent 9 (run (fresh 2) (toOpen 5 ∷ toOpen 2 ∷ toOpen 1 ∷ fill 
     ∷ (2 ∷ 1 ∷ 1 ∷ 2 ∷ 0 ∷ 0 ∷ [])
     ∷ (1 ∷ 1 ∷ 1 ∷ 0 ∷ 0 ∷ 0 ∷ [])
     ∷ []
-unfolding sent fill run step reply fresh openCall putCall nextCall lowest scanning orderOf columnOf cost roundOver columnAt term trailing bit order
+unfolding sent fill run step reply fresh openCall putCall nextCall lowest scanning orderOf columnOf cost roundOver columnAt term trailing bit order sharedUse
 held-order = refl
 
 -- the third send's call takes seven empty terms, ends the round, starts the next, and ends that one too: two starts and a whole round in one call
@@ -42,7 +42,7 @@ two-starts : sent 5 (run (fresh 2) (toOpen 8 ∷ toOpen 1 ∷ fill 0 1 longest 1
     ∷ (1 ∷ 1 ∷ 1 ∷ 0 ∷ 0 ∷ 0 ∷ [])
     ∷ (1 ∷ 1 ∷ 1 ∷ 0 ∷ 0 ∷ 0 ∷ [])
     ∷ []
-unfolding sent fill run step reply fresh openCall putCall nextCall lowest scanning orderOf columnOf cost roundOver columnAt term trailing bit order
+unfolding sent fill run step reply fresh openCall putCall nextCall lowest scanning orderOf columnOf cost roundOver columnAt term trailing bit order sharedUse
 two-starts = refl
 
 -- at the last position no round ends in an open visit (costs of 300), nor with slots still to visit
@@ -50,7 +50,7 @@ ends-after-visits : (sent 4 (run (fresh 2) (toOpen 1 ∷ fill 0 1 290 4))
     ≡ (0 ∷ 1 ∷ 1 ∷ 1 ∷ 0 ∷ 1 ∷ []) ∷ (0 ∷ 0 ∷ 0 ∷ 1 ∷ 0 ∷ 1 ∷ []) ∷ (0 ∷ 0 ∷ 0 ∷ 0 ∷ 0 ∷ 0 ∷ []) ∷ (0 ∷ 1 ∷ 1 ∷ 0 ∷ 0 ∷ 0 ∷ []) ∷ [])
     × (sent 4 (run (fresh 2) (toOpen 1 ∷ toOpen 1 ∷ fill 0 1 longest 2 ++ fill 1 1 longest 2))
     ≡ (0 ∷ 1 ∷ 1 ∷ 1 ∷ 0 ∷ 0 ∷ []) ∷ (1 ∷ 1 ∷ 0 ∷ 0 ∷ 0 ∷ 0 ∷ []) ∷ (0 ∷ 1 ∷ 1 ∷ 1 ∷ 0 ∷ 0 ∷ []) ∷ (1 ∷ 1 ∷ 0 ∷ 0 ∷ 0 ∷ 0 ∷ []) ∷ [])
-unfolding sent fill run step reply fresh openCall putCall nextCall lowest scanning orderOf columnOf cost roundOver columnAt term trailing bit order
+unfolding sent fill run step reply fresh openCall putCall nextCall lowest scanning orderOf columnOf cost roundOver columnAt term trailing bit order sharedUse
 ends-after-visits = (refl, refl)
 
 -- order, P and column after some calls
@@ -60,13 +60,13 @@ place s = s .order ∷ s .scan .position ∷ s .scan .column ∷ []
 -- in mid-round the last row leaves: order and P are 0 at once
 emptied-at-once : place (run (fresh 2) (toOpen 9 ∷ fill 0 1 longest 2 ++ toNext ∷ [])) ≡ 4 ∷ 1 ∷ 0 ∷ []
     × (place (run (fresh 2) (toOpen 9 ∷ fill 0 1 longest 2 ++ toNext ∷ toNext ∷ [])) ≡ 0 ∷ 0 ∷ 0 ∷ [])
-unfolding fill run step reply fresh openCall putCall nextCall lowest scanning orderOf columnOf cost roundOver columnAt term trailing bit order
+unfolding fill run step reply fresh openCall putCall nextCall lowest scanning orderOf columnOf cost roundOver columnAt term trailing bit order sharedUse
 emptied-at-once = (refl, refl)
 
 -- at 2^k - 1 with a slot still to visit the order rises: position 2^k comes next, with no round's end
 rises-at-end : sent 3 (run (fresh 2) (toOpen 1 ∷ toOpen 1 ∷ toOpen 2 ∷ fill 0 1 longest 2 ++ fill 1 1 longest 2 ++ toNext ∷ fill 2 1 longest 2))
     ≡ (1 ∷ 1 ∷ 0 ∷ 1 ∷ 0 ∷ 0 ∷ []) ∷ (0 ∷ 1 ∷ 1 ∷ 2 ∷ 0 ∷ 0 ∷ []) ∷ (1 ∷ 1 ∷ 0 ∷ 2 ∷ 0 ∷ 0 ∷ []) ∷ []
-unfolding sent fill run step reply fresh openCall putCall nextCall lowest scanning orderOf columnOf cost roundOver columnAt term trailing bit order
+unfolding sent fill run step reply fresh openCall putCall nextCall lowest scanning orderOf columnOf cost roundOver columnAt term trailing bit order sharedUse
 rises-at-end = refl
 
 -- "edition not 1 or 2"
@@ -89,7 +89,7 @@ holding-at k p =
 
 sound-held : (sound (fresh 0) ≡ false) × (sound (fresh 1) ≡ true) × (sound (fresh 2) ≡ true) × (sound (fresh 3) ≡ false)
     × (sound (holding-at 12 4094) ≡ true) × (sound (holding-at 12 4095) ≡ false) × (sound (holding-at 13 0) ≡ false) × (sound (holding-at 0 0) ≡ false)
-unfolding fill run step reply fresh sound openCall putCall lowest orderOf columnOf cost roundOver bit order
+unfolding fill run step reply fresh sound openCall putCall lowest orderOf columnOf cost roundOver bit order sharedUse
 sound-held = (refl, refl, refl, refl, refl, refl, refl, refl)
 
 -- a mixed run, as an independent scheduler has it
@@ -109,9 +109,9 @@ mixed : answers (fresh 2) calls
     ∷ (0 ∷ 1 ∷ []) ∷ (3 ∷ 1 ∷ []) ∷ (4 ∷ 1 ∷ 1014 ∷ 9 ∷ 0 ∷ 1 ∷ 2 ∷ []) ∷ (1 ∷ 1 ∷ 1014 ∷ 10 ∷ 3 ∷ 1 ∷ 0 ∷ []) ∷ (3 ∷ 1 ∷ 1014 ∷ 5 ∷ 0 ∷ 1 ∷ 13 ∷ [])
     ∷ (1 ∷ []) ∷ (2 ∷ 1 ∷ []) ∷ (1 ∷ 1 ∷ []) ∷ (0 ∷ []) ∷ (2 ∷ 1 ∷ 1014 ∷ 6 ∷ 0 ∷ 1 ∷ 0 ∷ []) ∷ (0 ∷ 1 ∷ 90 ∷ 11 ∷ 2 ∷ 1 ∷ 4 ∷ []) ∷ (2 ∷ 1 ∷ 90 ∷ 8 ∷ 1 ∷ 1 ∷ 12 ∷ []) ∷ (4 ∷ 1 ∷ [])
     ∷ []
-unfolding calls answers step reply fresh openCall putCall closeCall nextCall lowest scanning orderOf columnOf cost roundOver columnAt term trailing bit order
+unfolding calls answers step reply fresh openCall putCall closeCall nextCall lowest scanning orderOf columnOf cost roundOver columnAt term trailing bit order sharedUse
 mixed = refl
 
 mixed-place : place (run (fresh 2) calls) ≡ 5 ∷ 1 ∷ 0 ∷ []
-unfolding calls run step reply fresh openCall putCall closeCall nextCall lowest scanning orderOf columnOf cost roundOver columnAt term trailing bit order
+unfolding calls run step reply fresh openCall putCall closeCall nextCall lowest scanning orderOf columnOf cost roundOver columnAt term trailing bit order sharedUse
 mixed-place = refl

@@ -42,5 +42,5 @@ pub record Starred : Type 0 where
   pub eight : (number (openCall 4095 (fresh falling)) ≡ 0) × (number (openCall 4096 (fresh falling)) ≡ 6) × (number (openCall 0 (fresh falling)) ≡ 6)
   -- "9* Length 1,014 is taken, 1,015 gives 4."
   pub nine : (number (putCall 0 1 1014 7 (lone 1 [])) ≡ 0) × (number (putCall 0 1 1015 7 (lone 1 [])) ≡ 4)
-  -- "10* The 17th waiting record gives 5."
-  pub ten : (number (putCall 0 1 1 7 (lone 1 (fill 0 1 1 15))) ≡ 0) × (number (putCall 0 1 1 7 (lone 1 (fill 0 1 1 16))) ≡ 5)
+  -- "10* The 17th waiting record gives 5.": "Case 10 becomes the 65th record of one channel." (02 §4)
+  pub ten : (number (putCall 0 1 1 7 (lone 1 (fill 0 1 1 63))) ≡ 0) × (number (putCall 0 1 1 7 (lone 1 (fill 0 1 1 64))) ≡ 5)

@@ -5,7 +5,7 @@ use Prim.Native.Nat.{ℕ, zero, suc, _+_, _^_, _≤_, _<_}
 use native.Mathlib.Omega.{arith}
 use lib.Dec.{lit<}
 use lib.ListN.{length, getD}
-use Rattle.answers.specs.Answer.{Refusal, noSlot, notPresent, atClosing, badLength, full, badWeight, noneFree, noneWaits, noRow, unsound, noTerm, badEdition, numberOf, Answer}
+use Rattle.answers.specs.Answer.{Refusal, noSlot, notPresent, atClosing, badLength, full, badWeight, noneFree, noneWaits, noRow, unsound, noTerm, badEdition, noShared, numberOf, Answer}
 use Rattle.memory.specs.Memory.{Left}
 use Rattle.uplink.specs.Told.{leaving}
 use Rattle.text.specs.Writing.{written, answerLine}
@@ -35,6 +35,7 @@ number-small noRow = lit< tt
 number-small unsound = lit< tt
 number-small noTerm = lit< tt
 number-small badEdition = lit< tt
+number-small noShared = lit< tt
 
 module _ (letter : ℕ) (ns : List ℕ) (small : Small ns) (few : length ns ≤ 7) where
   -- a letter and at most seven numbers

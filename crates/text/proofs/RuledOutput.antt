@@ -13,7 +13,7 @@ use Rattle.spread.specs.Sequence.{term}
 use Rattle.spread.specs.Visits.{columnAt}
 use Rattle.answers.specs.Answer.{numberOf, refused, given}
 use Rattle.rules.specs.Numbers.{falling}
-use Rattle.rules.specs.State.{State, fresh, cost, roundOver, orderOf, columnOf}
+use Rattle.rules.specs.State.{State, fresh, cost, roundOver, orderOf, columnOf, sharedUse}
 use Rattle.rules.specs.Reply.{Reply, after}
 use Rattle.rules.specs.Next.{scanning, nextCall}
 use Rattle.rules.specs.Calls.{lowest, openCall, putCall, closeCall, Call, toOpen, toPut, toClose, toNext, toStart, toAsk}
@@ -138,7 +138,7 @@ whole =
     ∷ 63 ∷ 10 ∷ []
 
 listing : ruledOutput (fresh falling) (linesOf listed) ≡ whole
-unfolding ruledOutput linesOf commandOf spacedOff numberOff digitsOff digitsBy isDigit fresh openCall putCall closeCall nextCall lowest scanning orderOf columnOf cost roundOver columnAt term trailing bit order
+unfolding ruledOutput linesOf commandOf spacedOff numberOff digitsOff digitsBy isDigit fresh openCall putCall closeCall nextCall lowest scanning orderOf columnOf cost roundOver columnAt term trailing bit order sharedUse
 listing = refl
 
 pub listing-lifted : lift listed ≡ whole

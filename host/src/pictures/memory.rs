@@ -2,7 +2,7 @@
 //! one byte a record.
 
 use super::svg::{grouped, solid, Picture, GREY, GROUNDS, HEAD, LEFT, MIDDLE, RIGHT, WHITE};
-use crate::layout::{Field, FIELDS, LENGTH, PLACES};
+use crate::layout::{Field, CELLS, FIELDS, LENGTH};
 use crate::scheduler::SLOTS;
 
 /// A line of bytes: where it begins, how wide and how high it is, in every group.
@@ -14,8 +14,8 @@ const BYTE: f64 = 12.0;
 
 /// The file: the whole in one bar, then group by group.
 pub fn picture() -> String {
-    let (slots, records) = (group(|lanes| lanes == SLOTS), group(|lanes| lanes == PLACES));
-    let numbers = group(|lanes| lanes != SLOTS && lanes != PLACES);
+    let (slots, records) = (group(|lanes| lanes == SLOTS), group(|lanes| lanes == CELLS));
+    let numbers = group(|lanes| lanes != SLOTS && lanes != CELLS);
     let shows = format!(
         "Every field of the memory to scale, from its first byte to its last: {} lines of {SLOTS} bytes for the slots ({}), {} bytes of single numbers ({}), and {} \
          planes of {} bytes for the records ({}).",
@@ -24,7 +24,7 @@ pub fn picture() -> String {
         span(&numbers).1 - span(&numbers).0,
         names(&numbers),
         count(&records),
-        grouped(PLACES as u64),
+        grouped(CELLS as u64),
         names(&records)
     );
     let mut picture = Picture::new(&format!("The lent memory: {} bytes", grouped(LENGTH as u64)), &shows, 860.0);
@@ -35,7 +35,7 @@ pub fn picture() -> String {
     let head = format!("Slots: {} lines of {SLOTS} bytes, one lane a slot (of rows: one lane a row)", count(&slots));
     lines(&mut picture, 158.0, &head, &slots);
     single(&mut picture, 466.0, &numbers);
-    let head = format!("Records: {} planes of {} bytes, one lane a record of the run", count(&records), grouped(PLACES as u64));
+    let head = format!("Records: {} planes of {} bytes, one lane a record of the run", count(&records), grouped(CELLS as u64));
     lines(&mut picture, 656.0, &head, &records);
     run(&mut picture, 820.0);
     picture.finish()

@@ -1,13 +1,14 @@
 //! Wrong engines: the model engine with one slip each. The comparer must find every one.
 
 mod held;
+mod pool;
 mod slip;
 
 use host::answers::{Opened, Refusal, Sent};
 use host::engine::Engine;
 use host::layout;
 use host::model::{answer_bytes, apart, on};
-use host::scheduler::{Kind, Scheduler, FRAMING, LAST_TICKET, LONGEST};
+use host::scheduler::{Kind, Record, Scheduler, FRAMING, LAST_TICKET, LONGEST, MOST_WAITING};
 use host::spread;
 pub use slip::Slip;
 
@@ -38,12 +39,11 @@ impl Wrong {
                 layout::write(&scheduler, state);
             }
         }
-        if self.is(Slip::VisitLimit) && answer.len() == length {
-            if let Some(scheduler) = layout::from_bytes(state) {
-                if scheduler.scan.visit.is_some_and(|slot| scheduler.channels[slot].deficit > 2_045) {
-                    answer.fill(0);
-                    return Refusal::Unsound.number();
-                }
+        if let Some(scheduler) = layout::from_bytes(state).filter(|_| answer.len() == length) {
+            let in_visit = scheduler.scan.visit.map_or(0, |slot| scheduler.channels[slot].deficit);
+            if self.is(Slip::VisitLimit) && in_visit > 2_045 || self.refused_within(&scheduler) {
+                answer.fill(0);
+                return Refusal::Unsound.number();
             }
         }
         if answer.len() == length {
@@ -59,7 +59,7 @@ impl Wrong {
     }
 
     /// What the engine goes on with where a wrong check passes an unsound memory: one with a record a byte longer than the longest, with an open visit
-    /// whose deficit pays for the bare length of its head, or at a round's end.
+    /// whose deficit pays for the bare length of its head, at a round's end, or beyond a limit of room and shared cells.
     fn passed(&self, state: &[u8]) -> Option<Scheduler> {
         let mut scheduler = layout::from_bytes(state).filter(|scheduler| layout::to_bytes(scheduler) == state)?;
         match self.0 {
@@ -73,6 +73,7 @@ impl Wrong {
                 channel.deficit = channel.deficit.max(head.cost());
             }
             Slip::EndTakenAsSound => scheduler.end_round(&mut |_, _| {}),
+            Slip::SumUnchecked | Slip::SumOneMoreChecked | Slip::RoomOneMoreChecked => self.within_limits(&mut scheduler),
             _ => return None,
         }
         // Any other fault is still found.
@@ -197,9 +198,13 @@ impl Engine for Wrong {
                 let ticket = self.ticket(scheduler, slot, ticket);
                 let before = scheduler.clone();
                 let longer = self.is(Slip::OneByteLonger) && u64::from(length) == LONGEST + 1;
-                let result = scheduler.put_sound(slot, ticket, if longer { length - 1 } else { length }, reference);
+                let taken = if longer { length - 1 } else { length };
+                let record = Record { length: u64::from(taken), reference: u64::from(reference) };
+                let result = self.put_within(scheduler, slot, ticket, record);
                 match result {
-                    Err(Refusal::BadLength) if self.is(Slip::FiveBeforeFour) && before.channels[slot as usize].records.len() == 16 => {
+                    Err(Refusal::BadLength)
+                        if self.is(Slip::FiveBeforeFour) && before.channels[slot as usize].records.len() == MOST_WAITING =>
+                    {
                         return Err(Refusal::Full);
                     }
                     Err(Refusal::AtClosing) if self.is(Slip::FourBeforeThree) && !(1..=LONGEST).contains(&u64::from(length)) => {

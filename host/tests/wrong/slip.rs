@@ -47,6 +47,22 @@ pub enum Slip {
     EditionIgnored,
     EditionBeforeLength,
     EndTakenAsSound,
+    // The room and the shared cells (document 02, §4): in Put, and in the check.
+    SumOfRecords,
+    ThirteenBeforeFive,
+    ThirteenForOne,
+    OneSharedMore,
+    OneSharedFewer,
+    OneKept,
+    ThreeKept,
+    RoomOneMore,
+    RoomOneFewer,
+    SumUnchecked,
+    SumOneMoreChecked,
+    SumOneFewerChecked,
+    SumOfRecordsChecked,
+    RoomOneMoreChecked,
+    RoomOneFewerChecked,
     // Slips in the checks and on the driver's side.
     SevenBeforeSix,
     FiveBeforeFour,
@@ -62,7 +78,7 @@ pub enum Slip {
 }
 
 impl Slip {
-    pub const ALL: [Slip; 49] = [
+    pub const ALL: [Slip; 64] = [
         Slip::SlotNotTicket,
         Slip::JoinsTheScan,
         Slip::DeficitKept,
@@ -101,6 +117,21 @@ impl Slip {
         Slip::EditionIgnored,
         Slip::EditionBeforeLength,
         Slip::EndTakenAsSound,
+        Slip::SumOfRecords,
+        Slip::ThirteenBeforeFive,
+        Slip::ThirteenForOne,
+        Slip::OneSharedMore,
+        Slip::OneSharedFewer,
+        Slip::OneKept,
+        Slip::ThreeKept,
+        Slip::RoomOneMore,
+        Slip::RoomOneFewer,
+        Slip::SumUnchecked,
+        Slip::SumOneMoreChecked,
+        Slip::SumOneFewerChecked,
+        Slip::SumOfRecordsChecked,
+        Slip::RoomOneMoreChecked,
+        Slip::RoomOneFewerChecked,
         Slip::SevenBeforeSix,
         Slip::FiveBeforeFour,
         Slip::FourBeforeThree,

@@ -24,7 +24,7 @@ pub struct Memory([u8; Memory::LENGTH]);
 /// Each call below lends an entry slices of its own, a memory and an answer that cannot overlap, with their true lengths.
 impl Memory {
     /// How many bytes it has.
-    pub const LENGTH: usize = 7_040;
+    pub const LENGTH: usize = 3_968;
 
     /// The fresh state of an edition.
     pub fn new(edition: Edition) -> Memory {

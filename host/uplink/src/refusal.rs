@@ -14,7 +14,7 @@ pub enum Refusal {
     AtClosing = 3,
     /// Length 0 or above 1,014.
     BadLength = 4,
-    /// 16 records wait already.
+    /// 64 records wait already.
     Full = 5,
     /// Weight 0 or above 4,095.
     BadWeight = 6,
@@ -30,11 +30,13 @@ pub enum Refusal {
     NoTerm = 11,
     /// Edition not 1 or 2. An [`Edition`](crate::Edition) is one of them, so only the C entry gives it.
     BadEdition = 12,
+    /// Two records or more wait in the channel, and the 384 shared cells are taken: each channel has two of its own, and all share the rest.
+    NoShared = 13,
 }
 
 impl Refusal {
     /// Every refusal, by its number.
-    pub const ALL: [Refusal; 12] = [
+    pub const ALL: [Refusal; 13] = [
         Refusal::NoSlot,
         Refusal::NotPresent,
         Refusal::AtClosing,
@@ -47,6 +49,7 @@ impl Refusal {
         Refusal::Unsound,
         Refusal::NoTerm,
         Refusal::BadEdition,
+        Refusal::NoShared,
     ];
 
     /// The number that the call gave.
@@ -76,6 +79,7 @@ impl fmt::Display for Refusal {
             Refusal::Unsound => "state unsound, or state or answer of wrong length",
             Refusal::NoTerm => "no such term",
             Refusal::BadEdition => "no such edition",
+            Refusal::NoShared => "no shared cell left",
         })
     }
 }

@@ -4,7 +4,8 @@ use mathlib.Core.Path.{_≡_, refl, sym, ap, _∙_}
 use native.Mathlib.Omega.{arith}
 use borrow.Author.Needs.{needs}
 use Rattle.memory.specs.Names as the
-use Rattle.memory.specs.Layout.{cells, place}
+use Rattle.rules.specs.Numbers.{cells}
+use Rattle.memory.specs.Layout.{place}
 use Rattle.memory.specs.Reading.{numberIn}
 use Rattle.soundness.specs.Check.{allBelow, lengthRule, lengthsRule}
 use Rattle.soundness.proofs.CheckTurns.{all-turn, all-end}
