@@ -250,11 +250,12 @@ impl Scheduler {
         })
     }
 
-    /// "their use is the sum, over all channels, of records waiting beyond two": counted place by place of the queues. It is how many channels have a
-    /// third record, and how many a fourth, and so on, until none has one.
+    /// "their use is the sum, over all channels, of records waiting beyond two": counted over all channels at once, as all records that wait, less each first
+    /// one and each second one.
     pub fn shared_in_use(&self) -> usize {
-        let have_one_at = |place: usize| self.channels.iter().filter(|channel| channel.records.get(place).is_some()).count();
-        (KEPT..).map(have_one_at).take_while(|&channels| channels > 0).sum()
+        let waiting = || self.channels.iter().map(|channel| channel.records.len());
+        let have_one_at = |place: usize| waiting().filter(|&count| count > place).count();
+        waiting().sum::<usize>() - (0..KEPT).map(have_one_at).sum::<usize>()
     }
 
     /// The slot of a held channel whose present ticket this is.

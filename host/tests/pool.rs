@@ -102,7 +102,7 @@ fn a_closed_channel_drains_the_pool() {
     });
 }
 
-/// The sum by channels is the one that is counted by places.
+/// The sum, taken channel by channel.
 #[test]
 fn the_sum_both_ways() {
     let mut random = Random::new(61);
