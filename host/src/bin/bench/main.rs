@@ -10,7 +10,10 @@
 //! - plain call: the independent scheduler's Next and Put with that check before each. It writes no bytes, which favours it.
 //!
 //! With another archive its call, next and check are measured between those of the linked one, and one more table has both and their ratios. One from
-//! before document 02, §3, which knows no edition, is measured in edition 1.
+//! before document 02, §3, which knows no edition, is measured in edition 1. One from before §4 is lent the same records in planes of its own 1,024 cells; a
+//! fill of more than 16 a channel is not held by it.
+
+mod side;
 
 use std::env;
 use std::fmt::Write;
@@ -19,36 +22,34 @@ use std::path::Path;
 use std::process::ExitCode;
 use std::time::Instant;
 
-use host::answers::{Fields, Sent};
 use host::check::record_by_record;
-use host::engine::Engine;
-use host::layout::{self, EDITION};
-use host::linked::{Entries, LINKED};
-use host::model::answer_fields;
+use host::layout;
+use host::linked::Entries;
 use host::pictures::speed::NAMES;
 use host::scheduler::{Scheduler, EDITIONS, LONGEST};
 use host::states::door;
+use side::{Archive, Side, OWN};
 
 const BATCHES: usize = 301;
 /// Repetitions in a batch.
 const TIMES: usize = 200;
-const FILLS: [(u32, u32); 5] = [(0, 0), (4, 8), (16, 8), (64, 8), (64, 16)];
+const FILLS: [(u32, u32); 5] = [(0, 0), (4, 8), (16, 8), (64, 8), (8, 50)];
 
 /// Nanoseconds of three of the columns; none where there is nothing to send.
 type Three = [Option<f64>; 3];
 
-/// What is measured of one fill: call, next and check of each archive, and read, plain check and plain call.
+/// What is measured of one fill: call, next and check of each archive that holds it, and read, plain check and plain call.
 struct Line {
-    exported: Vec<Three>,
+    exported: Vec<Option<Three>>,
     plain: Three,
 }
 
 fn main() -> ExitCode {
     let words: Vec<String> = env::args().skip(1).collect();
-    let mut archives = vec![LINKED];
+    let mut archives = vec![OWN];
     match &words.iter().map(String::as_str).collect::<Vec<_>>()[..] {
         [] => {}
-        ["--beside", archive] => match Entries::of_archive(Path::new(archive)) {
+        ["--beside", archive] => match other(Path::new(archive)) {
             Ok(other) => archives.push(other),
             Err(error) => {
                 eprintln!("{error}");
@@ -78,6 +79,11 @@ fn main() -> ExitCode {
     ExitCode::SUCCESS
 }
 
+fn other(archive: &Path) -> Result<Archive, String> {
+    let entries = Entries::of_archive(archive)?;
+    Archive::of(entries).ok_or_else(|| format!("{}: its Start takes no length", archive.display()))
+}
+
 /// Channels of many weights, each with so many records of many lengths.
 fn filled(edition: u64, channels: u32, records: u32) -> Scheduler {
     let mut scheduler = Scheduler::fresh(edition);
@@ -91,10 +97,10 @@ fn filled(edition: u64, channels: u32, records: u32) -> Scheduler {
     scheduler
 }
 
-fn measured(edition: u64, channels: u32, records: u32, archives: &[Entries]) -> Line {
+fn measured(edition: u64, channels: u32, records: u32, archives: &[Archive]) -> Line {
     let mut scheduler = filled(edition, channels, records);
     let bytes = layout::to_bytes(&scheduler);
-    let mut sides: Vec<Option<Side>> = archives.iter().map(|&entries| Side::lent(entries, &bytes)).collect();
+    let mut sides: Vec<Option<Side>> = archives.iter().map(|&archive| Side::lent(archive, &bytes)).collect();
     let mut plain: [Vec<f64>; 3] = Default::default();
     for _ in 0..BATCHES {
         for side in sides.iter_mut().flatten() {
@@ -106,7 +112,7 @@ fn measured(edition: u64, channels: u32, records: u32, archives: &[Entries]) -> 
             plain[2].push(batch(2, || plain_pair(&mut scheduler, &bytes)));
         }
     }
-    let times = |side: Option<Side>| side.map_or([None; 3], |side| side.times.map(median));
+    let times = |side: Option<Side>| side.map(|side| side.times.map(median));
     Line { exported: sides.into_iter().map(times).collect(), plain: plain.map(median) }
 }
 
@@ -122,77 +128,6 @@ fn batch(calls: usize, mut repetition: impl FnMut()) -> f64 {
 fn median(mut times: Vec<f64>) -> Option<f64> {
     times.sort_by(f64::total_cmp);
     times.get(times.len() / 2).copied()
-}
-
-/// One archive under measurement.
-struct Side {
-    entries: Entries,
-    /// The memory that is sent from and put into, and one that only a refused call is lent.
-    memory: Vec<u8>,
-    lent: Vec<u8>,
-    times: [Vec<f64>; 3],
-}
-
-/// Whether an archive takes a memory for sound: it then refuses slot 64 for itself.
-fn takes(mut entries: Entries, memory: &mut [u8]) -> bool {
-    entries.ask(memory, 64, 1, &mut [0; 16]) == 1
-}
-
-impl Side {
-    /// The archive with a memory of its own. One that knows no edition is lent edition 1's without that byte; none where it takes neither.
-    fn lent(entries: Entries, bytes: &[u8]) -> Option<Side> {
-        let mut memory = bytes.to_vec();
-        if !takes(entries, &mut memory) && memory[EDITION.start] == 1 {
-            memory[EDITION.start] = 0;
-        }
-        takes(entries, &mut memory).then(|| Side { entries, lent: memory.clone(), memory, times: Default::default() })
-    }
-
-    fn measure(&mut self, sends: bool) {
-        if sends {
-            let pairs = batch(2, || self.pair());
-            self.times[0].push(pairs);
-            let nexts = self.next_alone();
-            self.times[1].push(nexts);
-        }
-        let checks = batch(1, || self.refused());
-        self.times[2].push(checks);
-    }
-
-    fn next(&mut self) -> Sent {
-        let mut answer = [0; 28];
-        assert_eq!(self.entries.next(&mut self.memory, &mut answer), 0);
-        let mut fields = answer_fields(&answer);
-        Sent::of(&[(); 7].map(|_| fields.next().unwrap_or(0))).expect("an answer of Next")
-    }
-
-    fn put(&mut self, sent: Sent) {
-        let mut answer = [0; 8];
-        assert_eq!(self.entries.put(&mut self.memory, sent.slot, sent.ticket, sent.length, sent.reference, &mut answer), 0);
-        black_box(answer);
-    }
-
-    fn pair(&mut self) {
-        let sent = self.next();
-        self.put(sent);
-    }
-
-    /// Nanoseconds of a Next.
-    fn next_alone(&mut self) -> f64 {
-        let mut nanoseconds = 0;
-        for _ in 0..TIMES / 4 {
-            let begin = Instant::now();
-            let sent: [Sent; 4] = std::array::from_fn(|_| self.next());
-            nanoseconds += begin.elapsed().as_nanos();
-            sent.into_iter().for_each(|sent| self.put(sent));
-        }
-        nanoseconds as f64 / TIMES as f64
-    }
-
-    fn refused(&mut self) {
-        let mut answer = [0; 16];
-        assert_eq!(black_box(self.entries.ask(&mut self.lent, 64, 1, &mut answer)), 1);
-    }
 }
 
 fn plain_pair(scheduler: &mut Scheduler, bytes: &[u8]) {
@@ -236,7 +171,7 @@ fn held() -> String {
 
 /// Nanoseconds of a Next from this memory, which takes so many terms.
 fn next_from(bytes: &[u8], terms: u32) -> f64 {
-    let mut sides = [(); ROW].map(|_| Side::lent(LINKED, bytes).expect("the linked archive takes a sound memory"));
+    let mut sides = [(); ROW].map(|_| Side::lent(OWN, bytes).expect("the linked archive takes a sound memory"));
     let mut nanoseconds = 0;
     for _ in 0..TIMES / ROW {
         sides.iter_mut().for_each(|side| side.memory.copy_from_slice(bytes));
@@ -258,10 +193,15 @@ fn rows(edition: u64, heads: &[&str], cells: impl Fn(&Line) -> Vec<String>, line
     text
 }
 
+/// What is measured of the linked archive, which holds every fill.
+fn own(line: &Line) -> Three {
+    line.exported[0].unwrap_or_default()
+}
+
 fn table(edition: u64, lines: &[Line]) -> String {
     let ratios = ["call / read", "next / read", "check / read", "check / plain check", "call / plain call"];
     let cells = |line: &Line| {
-        let times: Vec<Option<f64>> = line.exported[0].into_iter().chain(line.plain).collect();
+        let times: Vec<Option<f64>> = own(line).into_iter().chain(line.plain).collect();
         let ratios = [(0, 3), (1, 3), (2, 3), (2, 4), (0, 5)].map(|(over, under)| ratio(times[over], times[under]));
         times.into_iter().map(|time| shown(time, 0)).chain(ratios).collect()
     };
@@ -272,8 +212,10 @@ fn table(edition: u64, lines: &[Line]) -> String {
 fn beside(edition: u64, lines: &[Line]) -> String {
     let heads = NAMES[..3].iter().flat_map(|name| [name.to_string(), format!("{name} beside"), "ratio".to_string()]).collect::<Vec<_>>();
     let cells = |line: &Line| {
-        let pairs = line.exported[0].into_iter().zip(line.exported[1]);
-        pairs.flat_map(|(own, other)| [shown(own, 0), shown(other, 0), ratio(own, other)]).collect()
+        let Some(others) = line.exported[1] else {
+            return own(line).into_iter().flat_map(|own| [shown(own, 0), "not held".to_string(), shown(None, 2)]).collect();
+        };
+        own(line).into_iter().zip(others).flat_map(|(own, other)| [shown(own, 0), shown(other, 0), ratio(own, other)]).collect()
     };
     rows(edition, &heads.iter().map(String::as_str).collect::<Vec<_>>(), cells, lines)
 }

@@ -1,0 +1,112 @@
+//! One archive under measurement, on memories of its own.
+
+use std::hint::black_box;
+use std::time::Instant;
+
+use host::answers::{Fields, Sent};
+use host::engine::Engine;
+use host::layout::{CELLS, EDITION, LENGTH, LENGTHS};
+use host::linked::{Entries, LINKED};
+use host::model::answer_fields;
+
+use super::{batch, TIMES};
+
+/// The entries of an archive and the length of the memory that they take.
+#[derive(Clone, Copy)]
+pub struct Archive {
+    entries: Entries,
+    length: usize,
+}
+
+/// The linked one.
+pub const OWN: Archive = Archive { entries: LINKED, length: LENGTH };
+/// Another archive's memory is looked for up to this length.
+const LONGEST_MEMORY: usize = 16_384;
+
+impl Archive {
+    /// Another archive: its Start takes one length alone.
+    pub fn of(mut entries: Entries) -> Option<Archive> {
+        let length = (LENGTHS.start..=LONGEST_MEMORY).find(|&length| entries.start(&mut vec![0; length], 1) == 0)?;
+        Some(Archive { entries, length })
+    }
+
+    /// The same state in planes of this archive's cells.
+    fn memory(&self, bytes: &[u8]) -> Vec<u8> {
+        let (heads, planes) = bytes.split_at(LENGTHS.start);
+        let cells = CELLS * (self.length - heads.len()) / planes.len();
+        let plane = |plane: &[u8]| plane.iter().copied().chain(std::iter::repeat(0)).take(cells).collect();
+        [heads.to_vec()].into_iter().chain(planes.chunks(CELLS).map(plane)).flatten().collect()
+    }
+
+    /// Whether it takes a memory for sound: it then refuses slot 64 for itself.
+    fn takes(mut self, memory: &mut [u8]) -> bool {
+        self.entries.ask(memory, 64, 1, &mut [0; 16]) == 1
+    }
+}
+
+pub struct Side {
+    entries: Entries,
+    /// The memory that is sent from and put into, and one that only a refused call is lent.
+    pub memory: Vec<u8>,
+    lent: Vec<u8>,
+    /// Nanoseconds of call, next and check, batch by batch.
+    pub times: [Vec<f64>; 3],
+}
+
+impl Side {
+    /// The archive with a memory of its own. One that knows no edition is lent edition 1's without that byte; none where it takes neither.
+    pub fn lent(archive: Archive, bytes: &[u8]) -> Option<Side> {
+        let mut memory = archive.memory(bytes);
+        if !archive.takes(&mut memory) && memory[EDITION.start] == 1 {
+            memory[EDITION.start] = 0;
+        }
+        let entries = archive.entries;
+        archive.takes(&mut memory).then(|| Side { entries, lent: memory.clone(), memory, times: Default::default() })
+    }
+
+    pub fn measure(&mut self, sends: bool) {
+        if sends {
+            let pairs = batch(2, || self.pair());
+            self.times[0].push(pairs);
+            let nexts = self.next_alone();
+            self.times[1].push(nexts);
+        }
+        let checks = batch(1, || self.refused());
+        self.times[2].push(checks);
+    }
+
+    pub fn next(&mut self) -> Sent {
+        let mut answer = [0; 28];
+        assert_eq!(self.entries.next(&mut self.memory, &mut answer), 0);
+        let mut fields = answer_fields(&answer);
+        Sent::of(&[(); 7].map(|_| fields.next().unwrap_or(0))).expect("an answer of Next")
+    }
+
+    fn put(&mut self, sent: Sent) {
+        let mut answer = [0; 8];
+        assert_eq!(self.entries.put(&mut self.memory, sent.slot, sent.ticket, sent.length, sent.reference, &mut answer), 0);
+        black_box(answer);
+    }
+
+    fn pair(&mut self) {
+        let sent = self.next();
+        self.put(sent);
+    }
+
+    /// Nanoseconds of a Next.
+    fn next_alone(&mut self) -> f64 {
+        let mut nanoseconds = 0;
+        for _ in 0..TIMES / 4 {
+            let begin = Instant::now();
+            let sent: [Sent; 4] = std::array::from_fn(|_| self.next());
+            nanoseconds += begin.elapsed().as_nanos();
+            sent.into_iter().for_each(|sent| self.put(sent));
+        }
+        nanoseconds as f64 / TIMES as f64
+    }
+
+    fn refused(&mut self) {
+        let mut answer = [0; 16];
+        assert_eq!(black_box(self.entries.ask(&mut self.lent, 64, 1, &mut answer)), 1);
+    }
+}
