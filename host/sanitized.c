@@ -1,9 +1,9 @@
 /*
  * The C entries on memory that ends where nobody may touch the next byte: each call is made three times, on buffers that end at a
  * forbidden page, on buffers that begin behind one, and on buffers of just their length from malloc, and must do the same each time.
- * First comes a script whose answers are known, field by field; then calls at random in each edition, of which enough must be accepted. A
- * refusal must be one that the call can give, keep the state and write 0 to every field. Run as "sanitized [calls] [seed]"; host/README.md has the
- * commands. Exits with 1 for a library that does anything else: refuses.c and keeps.c are two.
+ * First comes a script whose answers are known, field by field; then calls at random in each edition, of which enough must be accepted. They begin
+ * where every cell is taken. A refusal must be one that the call can give, keep the state and write 0 to every field. Run as "sanitized [calls] [seed]";
+ * host/README.md has the commands. Exits with 1 for a library that does anything else: refuses.c and keeps.c are two.
  */
 #define _DEFAULT_SOURCE
 #include <inttypes.h>
@@ -15,8 +15,8 @@
 #include "uplink.h"
 
 enum { PAGE = 4096, SPACE = 2 * PAGE, PLACES = 3, WIDEST = 64, PAINT = 0xa5 };
-/* The state ahead of its records, which take six bytes each, and where its edition stands. */
-enum { HEADS = UPLINK_STATE_LENGTH - 6 * UPLINK_SLOTS * UPLINK_ROOM, EDITION = HEADS - 50 };
+/* The cells for records, the state ahead of them, which take six bytes each, and where its edition stands. */
+enum { CELLS = UPLINK_SLOTS * UPLINK_KEPT + UPLINK_SHARED, HEADS = UPLINK_STATE_LENGTH - 6 * CELLS, EDITION = HEADS - 50 };
 enum kind { START, OPEN, PUT, CLOSE, NEXT, ASK, LEAD, TERM, KINDS };
 
 static const char *const names[KINDS] = {"start", "open", "put", "close", "next", "ask", "lead", "term"};
@@ -91,8 +91,8 @@ static void made_at(int place, const struct call *c, const uint8_t *before, stru
 /* The numbers that each call can give, by docs/ANSWERS.md, and 0 behind them. No sound state gives 9. */
 static int can_give(enum kind kind, uint32_t number)
 {
-    static const uint32_t numbers[KINDS][7] = {{10, 12}, {10, 6, 7}, {10, 1, 2, 3, 4, 5}, {10, 1, 2, 3}, {10, 8}, {10, 1, 2}, {10, 6}, {10, 11}};
-    for (int i = 0; i < 7; i++)
+    static const uint32_t numbers[KINDS][8] = {{10, 12}, {10, 6, 7}, {10, 1, 2, 3, 4, 5, 13}, {10, 1, 2, 3}, {10, 8}, {10, 1, 2}, {10, 6}, {10, 11}};
+    for (int i = 0; i < 8; i++)
         if (numbers[kind][i] == number)
             return 1;
     return 0;
@@ -292,6 +292,31 @@ static void known(struct step step)
     steps++;
 }
 
+/* So many records, a visit each, for a channel that has had none. */
+static void given(uint32_t slot, uint32_t records)
+{
+    for (uint32_t serial = 0; serial < records; serial++)
+        known((struct step){PUT, {slot, 1, UPLINK_LONGEST, serial}, 0, {serial, serial + 1}});
+}
+
+/* Every cell is taken: full channels and one that has what is left share the cells, and every other slot has those kept for it and takes no more. A send of a
+   full channel frees one for another, which takes a third record. */
+static void run_full(uint32_t edition)
+{
+    enum { BEYOND = UPLINK_ROOM - UPLINK_KEPT, FULL = UPLINK_SHARED / BEYOND, REST = UPLINK_SHARED % BEYOND + UPLINK_KEPT };
+    known((struct step){START, {edition}, 0, {0}});
+    for (uint32_t slot = 0; slot < UPLINK_SLOTS; slot++) {
+        known((struct step){OPEN, {1}, 0, {slot, 1}});
+        given(slot, slot < FULL ? UPLINK_ROOM : slot == FULL ? REST : UPLINK_KEPT);
+    }
+    for (uint32_t slot = 0; slot < UPLINK_SLOTS; slot++)
+        known((struct step){PUT, {slot, 1, 1, 7}, slot < FULL ? UPLINK_FULL : UPLINK_NO_SHARED, {0}});
+    known((struct step){PUT, {FULL, 1, UPLINK_LONGEST + 1, 7}, UPLINK_BAD_LENGTH, {0}});
+    known((struct step){NEXT, {0}, 0, {0, 1, UPLINK_LONGEST, 0, 0, 1, 1}});
+    known((struct step){PUT, {UPLINK_SLOTS - 1, 1, 1, 7}, 0, {UPLINK_KEPT, UPLINK_KEPT + 1}});
+    known((struct step){PUT, {0, 1, 1, 7}, UPLINK_NO_SHARED, {0}});
+}
+
 static void run_script(void)
 {
     memset(kept, 0, sizeof kept);
@@ -346,15 +371,17 @@ static struct call any_call(void)
 }
 
 /* Of each kind at least one call in so many of all must be accepted; with the library it is twice as many. */
-static const unsigned long one_in[KINDS] = {6000, 50, 20, 120, 20, 120, 40, 250};
+static const unsigned long one_in[KINDS] = {6000, 75, 20, 120, 20, 120, 40, 250};
 
-/* They begin in an edition; a Start among them may take the other. */
+/* They begin in an edition with every cell taken, and go on from there again after one Start in three, so that some meet no shared cell; a Start among them may
+   take the other edition. */
 static void run_at_random(unsigned long calls, uint32_t edition)
 {
     static struct left left;
-    static uint8_t before[SPACE];
-    unsigned long accepted[KINDS] = {0};
-    known((struct step){START, {edition}, 0, {0}});
+    static uint8_t before[SPACE], full[UPLINK_STATE_LENGTH];
+    unsigned long accepted[KINDS] = {0}, none_shared = 0;
+    run_full(edition);
+    memcpy(full, kept, sizeof full);
     for (unsigned long i = 0; i < calls; i++) {
         struct call c = any_call();
         memcpy(before, kept, sizeof kept);
@@ -362,10 +389,11 @@ static void run_at_random(unsigned long calls, uint32_t edition)
         if (below(64) == 0)
             before[below(4) ? below(HEADS) : below(UPLINK_STATE_LENGTH)] ^= (uint8_t)(1 << below(8));
         everywhere(&c, before, &left);
+        none_shared += left.number == UPLINK_NO_SHARED;
         if (left.number == UPLINK_ACCEPTED) {
             accepted[c.kind]++;
             if (c.kind <= ASK)
-                memcpy(kept, left.state, UPLINK_STATE_LENGTH);
+                memcpy(kept, c.kind == START && below(3) == 0 ? full : left.state, UPLINK_STATE_LENGTH);
         }
     }
     for (int kind = 0; kind < KINDS; kind++)
@@ -373,6 +401,10 @@ static void run_at_random(unsigned long calls, uint32_t edition)
             printf("%lu accepted calls of %s are too few\n", accepted[kind], names[kind]);
             exit(1);
         }
+    if (none_shared == 0) {
+        printf("no call met the limit of the shared cells\n");
+        exit(1);
+    }
 }
 
 int main(int count, char **words)
