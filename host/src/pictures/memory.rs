@@ -1,5 +1,5 @@
 //! docs/memory.svg: every field of the lent memory to scale, by the layout's table: lines of one byte a slot, the single numbers, planes of
-//! one byte a record.
+//! one byte a cell.
 
 use super::svg::{grouped, solid, Picture, GREY, GROUNDS, HEAD, LEFT, MIDDLE, RIGHT, WHITE};
 use crate::layout::{Field, CELLS, FIELDS, LENGTH};
@@ -35,7 +35,7 @@ pub fn picture() -> String {
     let head = format!("Slots: {} lines of {SLOTS} bytes, one lane a slot (of rows: one lane a row)", count(&slots));
     lines(&mut picture, 158.0, &head, &slots);
     single(&mut picture, 466.0, &numbers);
-    let head = format!("Records: {} planes of {} bytes, one lane a record of the run", count(&records), grouped(CELLS as u64));
+    let head = format!("Records: {} planes of {} bytes, one lane a cell of the run", count(&records), grouped(CELLS as u64));
     lines(&mut picture, 656.0, &head, &records);
     run(&mut picture, 820.0);
     picture.finish()
