@@ -104,8 +104,7 @@ fn of_channels(edition: u64) -> Vec<Breakage> {
 }
 
 fn of_the_pool(edition: u64) -> Vec<Breakage> {
-    let breakage = |(name, rules, scheduler)| Breakage { name, rules, scheduler };
-    beyond_the_limit(edition).into_iter().map(breakage).collect()
+    beyond_the_limit(edition).into_iter().map(|(name, rules, scheduler)| Breakage { name, rules, scheduler }).collect()
 }
 
 fn of_rows(edition: u64) -> Vec<Breakage> {

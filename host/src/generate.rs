@@ -6,7 +6,7 @@ use crate::history::{Call, History, Step};
 use crate::layout;
 use crate::pool::counted_elsewhere;
 use crate::random::Random;
-use crate::scheduler::{Channel, Kind, Record, Scheduler, COLUMNS, EDITIONS, FRAMING, GRANT, LAST_TICKET, LONGEST, SLOTS};
+use crate::scheduler::{Channel, Kind, Record, Scheduler, COLUMNS, EDITIONS, FRAMING, GRANT, LAST_TICKET, LONGEST, MOST_WAITING, SLOTS};
 use crate::shapes::{Action, Shape, SHAPES};
 
 const BAD_SLOTS: [u32; 7] = [64, 65, 128, 256, 320, 0x8000_0000, u32::MAX];
@@ -143,7 +143,9 @@ impl Builder {
 
     fn put(&mut self) {
         let deep = self.shape.deep;
-        let (slot, ticket) = self.held(|waiting| waiting < deep);
+        // Where channels may fill up, some are given to full ones or nearly.
+        let least = if deep == MOST_WAITING && self.random.chance(1, 8) { MOST_WAITING - 2 } else { 0 };
+        let (slot, ticket) = self.held(|waiting| if least > 0 { waiting >= least } else { waiting < deep });
         let length = self.length(slot as usize);
         let reference = self.reference();
         self.push(Call::Put { slot, ticket, length, reference });
@@ -300,7 +302,7 @@ impl Builder {
         let mut damaged = bytes.clone();
         match self.random.below(8) {
             0 | 1 => damaged = layout::to_bytes(&beyond_a_limit(&mut self.random, &self.now)),
-            2 => damaged = counted_elsewhere(&mut self.random, &self.now),
+            2 | 3 => damaged = counted_elsewhere(&mut self.random, &self.now),
             _ => {
                 let place = self.any_place();
                 damaged[place] ^= if self.random.chance(1, 2) { 1 << self.random.below(8) } else { self.random.from_to(1, 255) as u8 };

@@ -74,12 +74,16 @@ pub fn beyond_the_limit(edition: u64) -> Vec<(&'static str, &'static [Rule], Sch
 pub fn any_at_limit(random: &mut Random, edition: u64) -> Scheduler {
     let mut slots: Vec<usize> = (0..SLOTS).collect();
     random.shuffle(&mut slots);
-    let (holders, others) = slots.split_at(random.pick(&[7, 8, 12, 30, 64]));
+    let (holders, others) = slots.split_at(random.pick(&[7, 8, 30, 64, 64]));
     let mut waiting = [None; SLOTS];
     holders.iter().for_each(|&slot| waiting[slot] = Some(KEPT));
-    let (mut left, piece) = (SHARED - random.pick(&[0, 0, 1, 4]), random.pick(&[1, 6, 62]));
+    // The first is often full, or nearly; what it leaves is not too much for six others.
+    let first = random.pick(&[14, MOST_WAITING - 1, MOST_WAITING]);
+    waiting[holders[0]] = Some(first);
+    let mut left = SHARED - (first - KEPT) - random.pick(&[0, 0, 1, 4]);
+    let piece = random.pick(&[1, 6, 62]);
     while left > 0 {
-        let count = waiting[random.pick(holders)].get_or_insert(KEPT);
+        let count = waiting[random.pick(&holders[1..])].get_or_insert(KEPT);
         let more = (random.from_to(1, piece) as usize).min(left).min(MOST_WAITING - *count);
         (*count, left) = (*count + more, left - more);
     }
@@ -98,17 +102,21 @@ pub fn any_full_channel(random: &mut Random, edition: u64) -> Scheduler {
     any_with(random, edition, &waiting)
 }
 
-/// The memory with one record counted to another channel: the run stays as it is, one number of waiting records goes down, another up. At the limit there may
-/// then be 385 shared cells in use, or 65 records in a channel, and as many records as before.
+/// The memory with one record counted to another channel: the run stays as it is, one number of waiting records goes down, another up. At the limits 385
+/// shared cells may then be in use, or 65 records wait in a channel, and as many records as before. Half of the time it is counted to both channels: where every
+/// cell is taken, the last record has none.
 pub fn counted_elsewhere(random: &mut Random, state: &Scheduler) -> Vec<u8> {
     let mut bytes = layout::to_bytes(state);
     let count = |slot: &usize| state.channels[*slot].records.len();
-    let least = state.rows.iter().copied().filter(|slot| count(slot) >= 2).min_by_key(count);
-    let (Some(least), Some(most)) = (least, state.rows.iter().copied().max_by_key(count)) else { return bytes };
-    let to = random.pick(&state.rows);
-    let (from, to) = (least, random.pick(&[to, to, most]));
+    let several: Vec<usize> = state.rows.iter().copied().filter(|slot| count(slot) >= 2).collect();
+    let (Some(&fewest), Some(&most)) = (several.iter().min_by_key(|slot| count(slot)), several.iter().max_by_key(|slot| count(slot)))
+    else {
+        return bytes;
+    };
+    let (from, to) = (random.pick(&several), random.pick(&state.rows));
+    let (from, to) = (random.pick(&[from, fewest]), random.pick(&[to, most]));
     if from != to {
-        bytes[WAITING.at(from, 0)] -= 1;
+        bytes[WAITING.at(from, 0)] -= u8::from(random.chance(1, 2));
         bytes[WAITING.at(to, 0)] += 1;
     }
     bytes

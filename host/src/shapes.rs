@@ -150,6 +150,8 @@ const TRAFFIC: &[(Action, u64)] = &[(Action::Open, 6), (Action::Put, 40), (Actio
 /// Records come a little faster than they go, so that the limits are met.
 const FILL: &[(Action, u64)] = &[(Action::Open, 4), (Action::Put, 40), (Action::Close, 1), (Action::Next, 24)];
 const HARM: &[(Action, u64)] = &[(Action::Open, 6), (Action::Put, 20), (Action::Close, 3), (Action::Next, 20), (Action::Damage, 20)];
+/// The same where the cells stay taken.
+const HARM_FULL: &[(Action, u64)] = &[(Action::Open, 2), (Action::Put, 20), (Action::Close, 1), (Action::Next, 4), (Action::Damage, 30)];
 const LENGTHS: &[(Action, u64)] = &[(Action::Open, 6), (Action::Put, 20), (Action::Close, 3), (Action::Next, 20), (Action::Mislent, 40)];
 const ALL: &[(Action, u64)] = &[
     (Action::Open, 10),
@@ -197,7 +199,7 @@ pub const SHAPES: &[Shape] = &[
     shape("a channel is full", pool::any_full_channel, 4, 64, PLAIN),
     shape("no shared cell left", pool::any_at_limit, 24, 64, PLAIN),
     shape("bad numbers at the limits", pool::any_at_limit, 24, 64, WRONG),
-    shape("damage at the limits", pool::any_at_limit, 12, 64, HARM),
+    shape("damage at the limits", pool::any_at_limit, 12, 64, HARM_FULL),
     Shape { long: 200, ..shape("a channel fills and drains", fresh, 1, 64, FILL) },
     Shape { length: short, long: 600, ..shape("the pool fills and drains", fresh, 40, 64, FILL) },
     shape("serial wrap", states::near_last_serial, 4, 16, PLAIN),

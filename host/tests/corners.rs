@@ -1,13 +1,16 @@
 //! The generated histories meet the corners where schedulers go wrong, each of them many times.
 
+mod limits;
+
 use std::collections::BTreeMap;
 
 use host::compare::state_call;
 use host::generate::history;
 use host::history::{Call, Step};
 use host::layout;
-use host::scheduler::{cost_of, Kind, Scheduler, GRANT, KEPT, LAST_TICKET, LONGEST, MOST_WAITING, SHARED};
+use host::scheduler::{cost_of, Kind, Scheduler, GRANT, LAST_TICKET, LONGEST, MOST_WAITING, SHARED};
 use host::steps::Moment;
+use limits::{look_at_cells_left, look_at_cells_taken, look_at_damage, look_at_limits};
 
 type Count = BTreeMap<&'static str, u32>;
 
@@ -117,6 +120,28 @@ fn histories_meet_every_corner() {
     assert!(numbers.keys().all(|&(_, number)| number != 9), "9 is never given");
 }
 
+/// What calls meet where a memory has been changed.
+const DAMAGED: [&str; 6] = [
+    "a sum of 385, and no other fault",
+    "a sum of 384, with a record counted elsewhere",
+    "65 records in a channel, and no other fault",
+    "65 records in a channel with the sum at 384, and no other fault",
+    "more than 512 records",
+    "more than 512 records, and no channel of more than 64",
+];
+
+#[test]
+fn damage_meets_the_limits() {
+    let mut count: Count = DAMAGED.into_iter().map(|corner| (corner, 0)).collect();
+    for seed in 0..1_500 {
+        look_at_damage(history(seed), &mut |corner, holds| *count.get_mut(corner).expect("a corner of the list") += u32::from(holds));
+    }
+    println!("{count:#?}");
+    for (corner, times) in count {
+        assert!(times >= 20, "{corner}: {times}");
+    }
+}
+
 fn name(call: &Call) -> &'static str {
     match call {
         Call::Start { .. } => "start",
@@ -181,37 +206,6 @@ fn look_at_put(before: &Scheduler, after: &Scheduler, slot: usize, fields: &[u32
     let of_the_column = after.channels[slot].weight >> scan.column & 1 == 1;
     met("a row of the noted column joins in the scan", joins && !scan.to_visit.is_empty() && of_the_column);
     met("a serial wraps", fields[0] == 65_535);
-}
-
-/// A record was taken, and so many wait now.
-fn look_at_cells_taken(before: &Scheduler, after: &Scheduler, waiting: usize, met: &mut impl FnMut(&'static str, bool)) {
-    let (was, is) = (before.shared_in_use(), after.shared_in_use());
-    met("the 64th record is taken", waiting == 64);
-    met("the sum goes from 382 to 383", (was, is) == (382, 383));
-    met("the sum goes from 383 to 384", (was, is) == (383, 384));
-    met("a channel of none is given one with the sum at 384", was == 384 && waiting == 1);
-    met("a channel of one is given one with the sum at 384", was == 384 && waiting == 2);
-    met("every cell is taken", after.channels.iter().map(|channel| channel.records.len()).sum::<usize>() == 512);
-    assert_eq!(is - was, usize::from(waiting > KEPT), "a third record and each after it takes a shared cell");
-}
-
-/// A channel of so many records is refused one more.
-fn look_at_limits(number: u32, waiting: usize, shared: usize, met: &mut impl FnMut(&'static str, bool)) {
-    let none_left = waiting >= KEPT && shared == SHARED;
-    met("5 with shared cells left", number == 5 && !none_left);
-    met("5 where 13 would be given too", number == 5 && none_left);
-    met("4 where 13 would be given too", number == 4 && none_left && waiting < MOST_WAITING);
-    met("3 where 13 would be given too", number == 3 && none_left && waiting < MOST_WAITING);
-    met("13 to a channel of two", number == 13 && waiting == 2);
-    met("13 to a channel of 63", number == 13 && waiting == 63);
-}
-
-/// A record of the slot was sent.
-fn look_at_cells_left(before: &Scheduler, after: &Scheduler, slot: usize, met: &mut impl FnMut(&'static str, bool)) {
-    let (was, is) = (before.shared_in_use(), after.shared_in_use());
-    met("the sum goes from 384 to 383", (was, is) == (384, 383));
-    met("the sum stays at 384 with a send", (was, is) == (384, 384));
-    met("a closing channel sends with the sum at 384", was == 384 && before.channels[slot].kind == Kind::Closing);
 }
 
 fn look_at_next(before: &Scheduler, after: &Scheduler, fields: &[u32], met: &mut impl FnMut(&'static str, bool)) {

@@ -1,6 +1,7 @@
 //! What the picture docs/door.svg shows: beside a drive that empties and refills, the door's turn never comes in edition 1, and once a round in edition 2.
 
 use host::door::{longest_wait, turns, DOOR_WEIGHT, DRIVE_WEIGHT};
+use host::scheduler::MOST_WAITING;
 
 const SENDS: usize = 20_000;
 
@@ -8,7 +9,7 @@ const SENDS: usize = 20_000;
 /// never above 2, and the door is at 2,048.
 #[test]
 fn without_end_in_edition_1() {
-    for burst in 1..=16 {
+    for burst in 1..=MOST_WAITING {
         let turns = turns(1, burst, SENDS);
         assert_eq!((&turns[..], longest_wait(&turns, SENDS)), (&[][..], SENDS), "bursts of {burst}");
     }
@@ -19,7 +20,7 @@ fn without_end_in_edition_1() {
 #[test]
 fn once_a_round_in_edition_2() {
     assert_eq!(turns(2, 1, SENDS), [2_048, 6_144, 10_240, 14_336, 18_432]);
-    for burst in 1..=16 {
+    for burst in 1..=MOST_WAITING {
         let turns = turns(2, burst, SENDS);
         assert!(longest_wait(&turns, SENDS) <= DRIVE_WEIGHT as usize, "bursts of {burst}");
         assert!(turns.len() >= SENDS * DOOR_WEIGHT as usize / (DOOR_WEIGHT + DRIVE_WEIGHT) as usize, "bursts of {burst}");

@@ -102,6 +102,18 @@ fn a_closed_channel_drains_the_pool() {
     });
 }
 
+/// The states at the limit are at it, or one or more cells below.
+#[test]
+fn states_at_the_limit() {
+    for edition in EDITIONS {
+        let sums: Vec<usize> = pool::at_the_limit(edition).iter().map(|(_, state)| state.shared_in_use()).collect();
+        assert_eq!(sums, [384, 384, 384, 384, 384, 384, 383, 383, 311, 384, 384]);
+        let cells = |state: &Scheduler| state.channels.iter().map(|channel| channel.records.len()).sum::<usize>();
+        let all_taken = pool::at_the_limit(edition).iter().filter(|(_, state)| cells(state) == 512).count();
+        assert_eq!(all_taken, 3);
+    }
+}
+
 /// The sum, taken channel by channel.
 #[test]
 fn the_sum_both_ways() {
