@@ -20,9 +20,10 @@ fn another_program_does_not() {
     assert!(difference.starts_with("difference after 1 lines") && difference.lines().count() <= 12, "{difference}");
 }
 
-/// Every line of a long text is a command, and most calls are accepted.
+/// Every line of a long text is a command, and most calls are accepted. Both limits of waiting records are met from the fresh state.
 #[test]
 fn long_texts() {
+    let (mut full, mut none_shared) = (0, 0);
     for seed in 0..34 {
         let (thousand, most) = (of_lines(seed, 1_000), of_most_lines(seed));
         assert!(thousand.len() < 46_000 && most.starts_with(&thousand), "{seed}");
@@ -34,8 +35,11 @@ fn long_texts() {
             assert_eq!(printed.lines().count(), count, "{seed}");
             let sent = printed.lines().filter(|line| line.starts_with('N')).count();
             assert!(sent > count / 20, "{seed}: {sent} of {count}");
+            full += printed.lines().filter(|&line| line == "R 5").count();
+            none_shared += printed.lines().filter(|&line| line == "R 13").count();
         }
     }
+    assert!(full > 100 && none_shared > 100, "{full} {none_shared}");
 }
 
 /// The texts hold every kind of printed line.
