@@ -1,4 +1,5 @@
-//! The lent memory: 3,968 bytes, as docs/LAYOUT.md gives them. Cells are the places of one run, slot after slot and oldest first, so a sound state has one memory.
+//! The lent memory: 3,968 bytes, as docs/LAYOUT.md gives them. Cells are the places of one run of records, slot after slot and oldest first, so that
+//! a sound state has one memory.
 //!
 //! The writer goes by the table of fields, the reader by lines of 64 bytes, so that a slip in one shows against the other.
 

@@ -1,5 +1,6 @@
 //! Makes a history that shows a difference shorter: steps are removed, openings with all that belongs to them, channels of the memory it
-//! begins with, and numbers are made plainer, as long as some difference is left. One that stays long, as where a pool has to be filled first, begins later.
+//! begins with, and numbers are made plainer, as long as some difference is left. One that stays long, as where the pool has to be filled first, begins
+//! later.
 
 use std::collections::HashMap;
 
