@@ -1,4 +1,4 @@
-// Next: the slot is chosen, its head record is sent and paid for, and the visit is settled.
+// Next: the slot is chosen, its head record is sent and paid for, the visit is settled, and the order is worked out again.
 use super::NextAnswer;
 use answers::Refusal;
 use memory::heads::Head;
@@ -14,6 +14,7 @@ use soundness::check;
 use std::num::wrapping_sub_u16;
 use visits::choose::Chosen;
 use visits::choose::choose;
+use visits::order::order_again;
 use visits::settle::settle;
 ghost use mathlib.Core.Path.{_≡_};
 ghost use mathlib.Core.Bool.{true};
@@ -25,6 +26,7 @@ ghost use Rattle.memory.specs.Layout.{memoryLength};
 ghost use Rattle.memory.specs.Memory.{soundBytes, replied, on};
 ghost use Rattle.memory.specs.Reading.{waitingAt, stateOf};
 ghost use Rattle.uplink.specs.Told.{nextTold, leaving};
+ghost use Rattle.uplink.specs.NextSteps.{Sends};
 ghost use Rattle.visits.specs.Choice.{Chose};
 ghost use Rattle.visits.specs.Settle.{paidHead};
 
@@ -48,13 +50,16 @@ fn next_in(state: &mut [u8]) -> NextAnswer
     }
     let scan = load_scan(state);
     let chosen = choose(state, scan);
-    send(state, chosen)
+    let answer = send(state, chosen);
+    order_again(state, chosen.slot);
+    answer
 }
 
-// "The head record is sent and its length taken from the deficit": its cost, by 02 §1. Its place is worked out once: no step of a send moves it.
-fn send(state: &mut [u8], chosen: Chosen) -> NextAnswer
+// "The head record is sent and its length taken from the deficit": its cost, by 02 §1. Its place is worked out once: no step of a send moves it. The order is
+// then still to be worked out.
+pub fn send(state: &mut [u8], chosen: Chosen) -> NextAnswer
     requires { ⌜ Chose (now state) chosen ⌝ }
-    ensures { λ r. ⌜ leaving (nextTold r) (now (state .exit)) ≡ replied (now (state .entry)) (nextCall (stateOf (now (state .entry)))) ⌝ }
+    ensures { λ r. ⌜ Sends (now (state .entry)) chosen r (now (state .exit)) ⌝ }
 {
     let slot = chosen.slot;
     let head = load_head(state, slot);

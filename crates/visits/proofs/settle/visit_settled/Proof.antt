@@ -6,8 +6,8 @@ use native.Mathlib.Omega.{arith}
 use borrow.Author.Needs.{needs}
 use lib.ListN.{length}
 use Rattle.rules.specs.State.{Record}
-use Rattle.rules.specs.Next.{settled}
 use Rattle.memory.specs.Layout.{bytesOf}
+use Rattle.visits.specs.Settle.{unordered}
 use Rattle.visits.proofs.SettledState.{memory-length, settling-waiting, length-none, length-some}
 use Rattle.visits.proofs.settle.visit_settled.Statement.{statement}
 use Rattle.visits.proofs.settle.visit_settled.Tie as tie
@@ -30,7 +30,7 @@ returns c =
     let i = c .before .before .before .before .before .before .before .before .args .slot in
     λ z.
     let none : z .channel .waiting ≡ [] = length-none (z .channel .waiting) (sym (settling-waiting z) ∙ sym (c .before .before .before .before .before .waiting-of .ensures .0) ∙ c .before .before .before .before .if1 .taken) in
-    c .before .before .row-left .ensures z none ∙ ap (λ (rs : List Record). bytesOf (settled rs (z .state) i (z .channel))) (sym none)
+    c .before .before .row-left .ensures z none ∙ ap (λ (rs : List Record). bytesOf (unordered rs (z .state) i (z .channel))) (sym none)
 
 row-stays-requires : tie.Need-row-stays-requires
 row-stays-requires c κs =
@@ -47,7 +47,7 @@ returns-2 c =
     let i = c .before .before .before .before .before .before .before .before .args .slot in
     λ z.
     let (h, more, e) = length-some (z .channel .waiting) (λ e. c .before .before .before .before .if1 .left (c .before .before .before .before .before .waiting-of .ensures .0 ∙ settling-waiting z ∙ e)) in
-    c .before .before .row-stays .ensures z h more e ∙ ap (λ (rs : List Record). bytesOf (settled rs (z .state) i (z .channel))) (sym e)
+    c .before .before .row-stays .ensures z h more e ∙ ap (λ (rs : List Record). bytesOf (unordered rs (z .state) i (z .channel))) (sym e)
 
 pub visit-settled-spec : {M : Type 1} → statement M
 visit-settled-spec =

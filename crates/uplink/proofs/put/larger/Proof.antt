@@ -2,8 +2,8 @@
 use native.Mathlib.Omega.{arith}
 use borrow.Author.Needs.{needs}
 use Rattle.bits.proofs.OrderLaws.{order-le}
-use Rattle.uplink.proofs.put.risen.Statement.{statement}
-use Rattle.uplink.proofs.put.risen.Tie as tie
+use Rattle.uplink.proofs.put.larger.Statement.{statement}
+use Rattle.uplink.proofs.put.larger.Tie as tie
 
 order-of-requires : tie.Need-order-of-requires
 order-of-requires c κs = search needs
@@ -19,8 +19,8 @@ cast-result c =
 returns-2 : tie.Need-returns-2
 returns-2 c = omega (arith, c .before .order-of .ensures, c .if1 .left)
 
-pub risen-spec : {M : Type 1} → statement M
-risen-spec =
+pub larger-spec : {M : Type 1} → statement M
+larger-spec =
     tie.close
     (tie.spec
     order-of-requires
