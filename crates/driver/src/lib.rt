@@ -9,13 +9,13 @@ use fields::give;
 use fields::refuse;
 use fields::wrong_length;
 use octets::low_first::write_u64;
+use records::sent;
+use records::taken;
 use spread::LeadAnswer;
 use spread::TermAnswer;
 use uplink::AskAnswer;
 use uplink::CloseAnswer;
-use uplink::NextAnswer;
 use uplink::OpenAnswer;
-use uplink::PutAnswer;
 use uplink::StartAnswer;
 ghost use mathlib.Core.Path.{_≡_};
 ghost use mathlib.Core.List.{[]};
@@ -26,6 +26,7 @@ ghost use Rattle.memory.specs.Memory.{on, startOn};
 ghost use Rattle.driver.specs.Entered.{entry, entered, stateless, startBytes, openBytes, putBytes, closeBytes, nextBytes, askBytes, termBytes, leadBytes};
 
 pub mod fields; // fields.rt: numbers and fields
+pub mod records; // records.rt: what Put and Next answer
 
 // Makes the state fresh, of an edition. It has no answer buffer.
 #[no_mangle]
@@ -70,13 +71,8 @@ pub extern "C" fn uplink_put(
     if answer.len() != 8 {
         return wrong_length();
     }
-    match uplink::put::put(state, slot, ticket, length, reference) {
-        PutAnswer::Taken { serial, waiting } => {
-            let fields = [serial as u32, waiting];
-            give(answer, &fields)
-        }
-        PutAnswer::Refused(why) => refuse(answer, why),
-    }
+    let told = uplink::put::put(state, slot, ticket, length, reference);
+    taken(answer, told)
 }
 
 // Closes a channel. Answer: 1 if its slot is free at once, 0 if its records are sent first.
@@ -104,29 +100,8 @@ pub extern "C" fn uplink_next(state: &mut [u8], answer: &mut [u8]) -> u32
     if answer.len() != 28 {
         return wrong_length();
     }
-    match uplink::next::next(state) {
-        NextAnswer::Sent {
-            slot,
-            ticket,
-            length,
-            reference,
-            serial,
-            started,
-            terms,
-        } => {
-            let fields = [
-                slot,
-                ticket,
-                length,
-                reference,
-                serial as u32,
-                started,
-                terms,
-            ];
-            give(answer, &fields)
-        }
-        NextAnswer::Refused(why) => refuse(answer, why),
-    }
+    let told = uplink::next::next(state);
+    sent(answer, told)
 }
 
 // Tells of a channel, and changes nothing. Answer: 1 for open or 2 for closing, weight, deficit, number waiting.

@@ -1,6 +1,6 @@
--- A buffer of another length keeps all, a refusal has cleared it, and an answer's fields are its words.
+-- A buffer of another length keeps all; else it shows what the call answers.
 use borrow.Author.Needs.{needs}
-use Rattle.driver.proofs.EnteredLaws.{entered-kept, entered-refused, entered-given}
+use Rattle.driver.proofs.EnteredLaws.{entered-kept, entered-told}
 use Rattle.driver.proofs.uplink_put.Statement.{statement}
 use Rattle.driver.proofs.uplink_put.Tie as tie
 
@@ -13,23 +13,8 @@ returns c = rw (c .wrong-length .ensures) (entered-kept _ _ _ _ _ (c .before .if
 put-requires : tie.Need-put-requires
 put-requires c κs = search needs
 
-enum-known-serial : tie.Need-enum-known-serial
-enum-known-serial c = search needs
-
-cast-t17 : tie.Need-cast-t17
-cast-t17 c = search needs
-
-slice-aggregate-give : tie.Need-slice-aggregate-give
-slice-aggregate-give c = search needs
-
-give-requires : tie.Need-give-requires
-give-requires c κs = search needs
-
-enum-known-why : tie.Need-enum-known-why
-enum-known-why c = search needs
-
-refuse-requires : tie.Need-refuse-requires
-refuse-requires c κs = search needs
+taken-requires : tie.Need-taken-requires
+taken-requires c κs = search needs
 
 same-length : tie.Need-same-length
 same-length c = search needs
@@ -38,24 +23,7 @@ same-length-2 : tie.Need-same-length-2
 same-length-2 c = search needs
 
 returns-2 : tie.Need-returns-2
-returns-2 c =
-    let done = c .before .before in
-    let told = done .before .before .before .before .serial .given .1 in
-    let call = done .before .before .before .before .before .before .before .before in
-    entered-given _ _ _ _ _ _ (call .before .before .if1 .left) (rw told at (call .put .ensures)) (done .give .ensures)
-
-same-length-3 : tie.Need-same-length-3
-same-length-3 c = search needs
-
-same-length-4 : tie.Need-same-length-4
-same-length-4 c = search needs
-
-returns-3 : tie.Need-returns-3
-returns-3 c =
-    let done = c .before .before in
-    let told = done .before .before .before .why .given .1 in
-    let call = done .before .before .before .before .before .before .before in
-    entered-refused _ _ _ _ _ _ (call .before .before .if1 .left) (rw told at (call .put .ensures)) (done .refuse .ensures)
+returns-2 c = entered-told _ _ _ _ _ _ (c .before .before .before .before .before .before .before .before .if1 .left) (c .before .before .before .before .before .before .put .ensures) (c .before .before .taken .ensures)
 
 pub uplink-put-spec : {M : Type 1} → statement M
 uplink-put-spec =
@@ -64,15 +32,7 @@ uplink-put-spec =
     wrong-length-requires
     returns
     put-requires
-    enum-known-serial
-    cast-t17
-    slice-aggregate-give
-    give-requires
-    enum-known-why
-    refuse-requires
+    taken-requires
     same-length
     same-length-2
-    returns-2
-    same-length-3
-    same-length-4
-    returns-3)
+    returns-2)
