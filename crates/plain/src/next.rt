@@ -1,0 +1,40 @@
+// Next, the choice and the order worked out on paper. What is sent, and what it costs, has nothing to do with the matrix: `send` is the linked engine's.
+use super::choose::choose;
+use super::order::order_again;
+use answers::Refusal;
+use memory::point::load_scan;
+use memory::rows::row_count;
+use soundness::check;
+use uplink::NextAnswer;
+use uplink::next::send;
+ghost use mathlib.Core.Path.{_≡_};
+ghost use mathlib.Core.Bool.{true};
+ghost use Rattle.rules.specs.Next.{nextCall};
+ghost use Rattle.memory.specs.Memory.{soundBytes, replied, on};
+ghost use Rattle.memory.specs.Reading.{stateOf};
+ghost use Rattle.uplink.specs.Told.{nextTold, leaving};
+
+// Next sends one record: an open visit goes on, or the first slot still to visit starts one, or the first of the next column that has a row.
+pub fn next(state: &mut [u8]) -> NextAnswer
+    ensures { λ r. ⌜ leaving (nextTold r) (now (state .exit)) ≡ on nextCall (now (state .entry)) ⌝ }
+{
+    if !check(state) {
+        return NextAnswer::Refused(Refusal::Unsound);
+    }
+    next_in(state)
+}
+
+// Next on a sound memory.
+fn next_in(state: &mut [u8]) -> NextAnswer
+    requires { ⌜ soundBytes (now state) ≡ true ⌝ }
+    ensures { λ r. ⌜ leaving (nextTold r) (now (state .exit)) ≡ replied (now (state .entry)) (nextCall (stateOf (now (state .entry)))) ⌝ }
+{
+    if row_count(state) == 0 {
+        return NextAnswer::Refused(Refusal::NoneWaits);
+    }
+    let scan = load_scan(state);
+    let chosen = choose(state, scan);
+    let answer = send(state, chosen);
+    order_again(state, chosen.slot);
+    answer
+}
