@@ -8,15 +8,11 @@ use crate::engine::Engine;
 use crate::generate;
 use crate::history::{Call, History, Step};
 use crate::layout;
+use crate::lent::{Lent, UNWRITTEN};
 use crate::model::answer_bytes;
 use crate::scheduler::Scheduler;
 use crate::shrink::shrink;
 use crate::spread;
-
-/// What an answer buffer holds before a call, so that bytes not written show.
-const UNWRITTEN: u8 = 0xa5;
-/// Bytes on each side of what is lent, which no call may touch. Odd, so that nothing is lent at an even address.
-const MARGIN: usize = 61;
 
 /// Where engine and scheduler part.
 #[derive(Clone, Debug)]
@@ -43,39 +39,6 @@ impl fmt::Display for Report {
         }
         writeln!(out, "# shortest history found, {} steps; the last one differs:", self.history.steps.len())?;
         write!(out, "{}", self.history)
-    }
-}
-
-/// Bytes lent to the engine, between two margins.
-struct Lent {
-    bytes: Vec<u8>,
-}
-
-impl Lent {
-    fn new(content: &[u8]) -> Lent {
-        let mut bytes = vec![UNWRITTEN; content.len() + 2 * MARGIN];
-        bytes[MARGIN..MARGIN + content.len()].copy_from_slice(content);
-        Lent { bytes }
-    }
-
-    fn content(&mut self) -> &mut [u8] {
-        let end = self.bytes.len() - MARGIN;
-        &mut self.bytes[MARGIN..end]
-    }
-
-    /// The first difference from what is expected, with its place named by the given words.
-    fn differs(&self, expected: &[u8], name: impl Fn(usize) -> String) -> Option<String> {
-        let end = self.bytes.len() - MARGIN;
-        let content = &self.bytes[MARGIN..end];
-        if content.len() != expected.len() {
-            return Some(format!("{} has {} bytes, should have {}", name(0), content.len(), expected.len()));
-        }
-        if let Some(place) = (0..expected.len()).find(|&at| content[at] != expected[at]) {
-            let (is, should) = (content[place], expected[place]);
-            return Some(format!("byte {place} of {}: {is}, should be {should}", name(place)));
-        }
-        let margins = self.bytes[..MARGIN].iter().chain(&self.bytes[end..]);
-        margins.into_iter().any(|&byte| byte != UNWRITTEN).then(|| format!("bytes beside {} were written", name(0)))
     }
 }
 
@@ -110,6 +73,7 @@ impl Pair {
         let (number, expected_answer) = self.expect(call);
         let mut answer = Lent::new(&[UNWRITTEN; 28][..call.answer_length()]);
         let given = engine.call(call, self.lent.content(), answer.content());
+        parted(engine)?;
         if given != number {
             return Err(format!("number {given}, should be {number}"));
         }
@@ -166,6 +130,7 @@ impl Pair {
         let unwritten = vec![UNWRITTEN; answer_length];
         let mut answer = Lent::new(&unwritten);
         let given = engine.call(call, state.content(), answer.content());
+        parted(engine)?;
         if given != Refusal::Unsound.number() {
             return Err(format!("number {given}, should be 10"));
         }
@@ -183,6 +148,11 @@ impl Pair {
         self.scheduler = layout::sound_from_bytes(&self.expected);
         Ok(())
     }
+}
+
+/// An engine that is two says where they differ.
+fn parted<E: Engine + ?Sized>(engine: &mut E) -> Result<(), String> {
+    engine.parted().map_or(Ok(()), Err)
 }
 
 /// A call on a sound state of the independent scheduler.
@@ -238,25 +208,4 @@ pub fn run_seeds<E: Engine + ?Sized>(engine: &mut E, seed: u64, calls: u64) -> R
         }
     }
     Ok(compared)
-}
-
-#[cfg(test)]
-mod tests {
-    use super::{Lent, MARGIN};
-
-    fn differs(lent: &Lent, expected: &[u8]) -> String {
-        lent.differs(expected, |_| "it".to_string()).unwrap_or_default()
-    }
-
-    /// More bytes with the same beginning, and fewer, are as wrong as other ones.
-    #[test]
-    fn the_whole_is_compared() {
-        let mut lent = Lent::new(&[1, 2, 3]);
-        assert_eq!(differs(&lent, &[1, 2, 3]), "");
-        assert_eq!(differs(&lent, &[1, 2]), "it has 3 bytes, should have 2");
-        assert_eq!(differs(&lent, &[1, 2, 3, 0]), "it has 3 bytes, should have 4");
-        assert_eq!(differs(&lent, &[1, 2, 4]), "byte 2 of it: 3, should be 4");
-        lent.bytes[MARGIN + 3] = 0;
-        assert_eq!(differs(&lent, &[1, 2, 3]), "bytes beside it were written");
-    }
 }

@@ -13,6 +13,11 @@ pub trait Engine {
     fn lead(&mut self, w1: u32, v1: u32, w2: u32, v2: u32, answer: &mut [u8]) -> u32;
     fn term(&mut self, order: u32, position: u32, answer: &mut [u8]) -> u32;
 
+    /// Where this is two engines in one: how they differed in the last call. One by itself never does.
+    fn parted(&mut self) -> Option<String> {
+        None
+    }
+
     /// The call by its name.
     fn call(&mut self, call: &Call, state: &mut [u8], answer: &mut [u8]) -> u32 {
         match *call {

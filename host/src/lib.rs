@@ -3,29 +3,35 @@
 //! - [`scheduler`], [`steps`], [`sound`], [`spread`], [`answers`]: an independent scheduler, written from documents 01 and 02 over plain
 //!   structures.
 //! - [`layout`]: the lent memory, written from and read into that scheduler; [`check`]: the same question asked record by record.
-//! - [`engine`], `linked` (feature `linked`), [`model`], [`history`], [`compare`], [`shrink`]: an engine under test is run beside the independent scheduler, call by
-//!   call, and every byte is compared.
+//! - [`engine`], `linked` and `entries` (feature `linked`), [`model`], [`beside`], [`history`], [`lent`], [`compare`], [`shrink`]: an engine under test, or two that
+//!   must agree, is run beside the independent scheduler, call by call, and every byte is compared.
 //! - [`random`], [`states`], [`pool`], [`damage`], [`shapes`], [`generate`]: what the compared runs are fed with.
-//! - [`plain`]: plain deficit round robin, to measure against; [`door`]: how long a door waits beside a drive; `pictures` (feature `linked`): the pictures in
+//! - [`deficit`]: deficit round robin, to measure against; [`door`]: how long a door waits beside a drive; `pictures` (feature `linked`): the pictures in
 //!   docs/.
-//! - [`lift`], [`texts`]: the command program's text, from input bytes to output bytes, and texts to compare a real `lift` with.
+//! - [`lift`], [`page`], [`texts`]: the command programs' text, from input bytes to output bytes, `matrix` with its pages, and texts to compare a real `lift` and
+//!   `matrix` with.
 
 pub mod answers;
+pub mod beside;
 pub mod check;
 pub mod compare;
 pub mod damage;
+pub mod deficit;
 pub mod door;
 pub mod engine;
+#[cfg(feature = "linked")]
+pub mod entries;
 pub mod generate;
 pub mod history;
 pub mod layout;
+pub mod lent;
 pub mod lift;
 #[cfg(feature = "linked")]
 pub mod linked;
 pub mod model;
+pub mod page;
 #[cfg(feature = "linked")]
 pub mod pictures;
-pub mod plain;
 pub mod pool;
 pub mod random;
 pub mod scheduler;

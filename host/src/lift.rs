@@ -12,18 +12,21 @@ pub const LARGEST_INPUT: usize = 65_536;
 
 /// What `lift` prints for this input.
 pub fn lift(input: &[u8]) -> Vec<u8> {
+    with_pages(input, |_| String::new())
+}
+
+/// The same with the lines that a Next has under its own, by the state before it.
+pub fn with_pages(input: &[u8], page: impl Fn(&Scheduler) -> String) -> Vec<u8> {
     if input.len() > LARGEST_INPUT {
         return b"? input\n".to_vec();
     }
     let mut scheduler = Scheduler::fresh(1);
     let mut output = Vec::new();
     for line in lines(input) {
-        let printed = match command(line) {
-            Some(call) => run(&mut scheduler, call),
-            None => "?".to_string(),
-        };
-        output.extend(printed.bytes());
-        output.push(b'\n');
+        let call = command(line);
+        let under = if call == Some(Call::Next) { page(&scheduler) } else { String::new() };
+        let printed = call.map_or("?".to_string(), |call| run(&mut scheduler, call));
+        output.extend(format!("{printed}\n{under}").bytes());
     }
     output
 }

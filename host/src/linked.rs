@@ -1,4 +1,5 @@
-//! The exported C entries as an engine under test: those that this program is linked with, and those of another archive beside them.
+//! The exported C entries as an engine under test: those that this program is linked with, support's in the place of two of them, and those of another
+//! archive beside them.
 
 use std::ffi::{c_char, c_int, c_void, CStr, CString};
 use std::path::Path;
@@ -6,7 +7,9 @@ use std::process::Command;
 
 use uplink::entries::{uplink_ask, uplink_close, uplink_lead, uplink_next, uplink_open, uplink_put, uplink_start, uplink_term};
 
+use crate::beside::Beside;
 use crate::engine::Engine;
+use crate::entries::{plain_next, plain_put};
 
 /// The entries of one archive. Any lengths may be lent to them.
 ///
@@ -45,9 +48,17 @@ pub const LINKED: Entries = Entries {
     term: uplink_term,
 };
 
+/// The same, with Put and Next of support's engine.
+pub const PLAIN: Entries = Entries { put: plain_put, next: plain_next, ..LINKED };
+
 extern "C" {
     fn dlopen(file: *const c_char, flags: c_int) -> *mut c_void;
     fn dlsym(library: *mut c_void, name: *const c_char) -> *mut c_void;
+}
+
+/// Both: support's engine is held against the adapter's, call by call.
+pub fn both() -> Beside<Entries, Entries> {
+    Beside::new(LINKED, PLAIN)
 }
 
 impl Entries {

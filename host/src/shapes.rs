@@ -116,7 +116,7 @@ fn short(random: &mut Random) -> u32 {
     random.pick(&[1, 90, 190, 246, 331, 332, 502, 1_014])
 }
 
-const PLAIN: &[(Action, u64)] = &[
+const MIXED: &[(Action, u64)] = &[
     (Action::Open, 8),
     (Action::Put, 40),
     (Action::Close, 3),
@@ -179,14 +179,14 @@ const fn shape(
 }
 
 pub const SHAPES: &[Shape] = &[
-    shape("few channels", fresh, 3, 16, PLAIN),
-    shape("many channels", fresh, 64, 3, PLAIN),
-    Shape { weight: weight_at_edge, length: long, ..shape("weights at edges", fresh, 6, 8, PLAIN) },
-    Shape { weight: small_weight, length: length_at_edge, ..shape("lengths at edges", fresh, 5, 16, PLAIN) },
-    Shape { length: short, ..shape("fill and drain", fresh, 24, 16, PLAIN) },
+    shape("few channels", fresh, 3, 16, MIXED),
+    shape("many channels", fresh, 64, 3, MIXED),
+    Shape { weight: weight_at_edge, length: long, ..shape("weights at edges", fresh, 6, 8, MIXED) },
+    Shape { weight: small_weight, length: length_at_edge, ..shape("lengths at edges", fresh, 5, 16, MIXED) },
+    Shape { length: short, ..shape("fill and drain", fresh, 24, 16, MIXED) },
     Shape { weight: small_weight, ..shape("replug storm", fresh, 5, 3, STORM) },
-    Shape { weight: far_weight, length: long, ..shape("orders rise and fall", fresh, 6, 2, PLAIN) },
-    Shape { weight: small_weight, length: long, ..shape("rows unlike slots", fresh, 12, 2, PLAIN) },
+    Shape { weight: far_weight, length: long, ..shape("orders rise and fall", fresh, 6, 2, MIXED) },
+    Shape { weight: small_weight, length: long, ..shape("rows unlike slots", fresh, 12, 2, MIXED) },
     Shape { weight: door_or_drive, length: long, ..shape("heavy rows leave in mid-round", fresh, 5, 1, TRAFFIC) },
     Shape { weight: small_weight, length: long, ..shape("rounds end in a call", fresh, 4, 1, TRAFFIC) },
     Shape { weight: far_weight, length: short, ..shape("the last terms of a round", states::near_round_end, 8, 2, TRAFFIC) },
@@ -196,16 +196,16 @@ pub const SHAPES: &[Shape] = &[
     // More than there are slots: opening goes on when all are held.
     shape("no slot left", fresh, 150, 2, WRONG),
     // Room and shared cells (document 02, §4): near the limits from the beginning, and filled from nothing.
-    shape("a channel is full", pool::any_full_channel, 4, 64, PLAIN),
-    shape("no shared cell left", pool::any_at_limit, 24, 64, PLAIN),
+    shape("a channel is full", pool::any_full_channel, 4, 64, MIXED),
+    shape("no shared cell left", pool::any_at_limit, 24, 64, MIXED),
     shape("bad numbers at the limits", pool::any_at_limit, 24, 64, WRONG),
     shape("damage at the limits", pool::any_at_limit, 12, 64, HARM_FULL),
     Shape { long: 200, ..shape("a channel fills and drains", fresh, 1, 64, FILL) },
     Shape { length: short, long: 600, ..shape("the pool fills and drains", fresh, 40, 64, FILL) },
-    shape("serial wrap", states::near_last_serial, 4, 16, PLAIN),
+    shape("serial wrap", states::near_last_serial, 4, 16, MIXED),
     shape("last ticket", states::near_last_ticket, 4, 4, STORM),
-    shape("unreached states", unreached, 8, 16, PLAIN),
-    shape("any sound state", any_state, 24, 16, PLAIN),
+    shape("unreached states", unreached, 8, 16, MIXED),
+    shape("any sound state", any_state, 24, 16, MIXED),
     shape("damage", any_state, 12, 8, HARM),
     shape("other lengths", fresh, 6, 8, LENGTHS),
     Shape { length: short, ..shape("everything", fresh, 16, 6, ALL) },

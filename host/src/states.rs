@@ -52,6 +52,15 @@ pub fn door(order: u64, position: u64, lengths: &[u64]) -> Scheduler {
     scheduler
 }
 
+/// Edition 2 holds an order above a row of weight 1 in every slot: each empty column is looked at row by row.
+pub fn crowd(order: u64, position: u64) -> Scheduler {
+    let channels: Vec<_> = (0..SLOTS).map(|slot| (slot, channel(Kind::Open, 1, 1, 0, 1, &[LONGEST]))).collect();
+    let rows: Vec<usize> = (0..SLOTS).collect();
+    let mut scheduler = with_rows(2, &channels, &rows);
+    (scheduler.order, scheduler.scan.position) = (order, position);
+    scheduler
+}
+
 /// Sound states that no history reaches, or that take very long to reach, by name.
 pub fn unreached(edition: u64) -> Vec<(&'static str, Scheduler)> {
     let mut states = vec![("rich", rich(edition))];

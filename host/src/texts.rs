@@ -1,13 +1,15 @@
-//! Texts for the command program, and the comparison of a real `lift` with [`crate::lift`].
+//! Texts for the command programs, and the comparison of what one prints with what it should: a real `lift` with [`crate::lift`], a real `matrix` with [`crate::page`]
+//! and with a real `lift`.
 
 use std::io::{self, Write};
+use std::ops::Range;
 use std::path::Path;
-use std::process::{Command, Stdio};
+use std::process::{Command, ExitCode, Stdio};
 use std::thread;
 
 use crate::generate::{commands, history_of};
 use crate::history::Step;
-use crate::lift::{lift, LARGEST_INPUT};
+use crate::lift::LARGEST_INPUT;
 use crate::random::Random;
 use crate::shapes::SHAPES;
 
@@ -83,7 +85,8 @@ fn spoil(random: &mut Random, line: &mut Vec<u8>) {
 
 /// What the program prints for this input.
 pub fn printed(program: &Path, input: &[u8]) -> io::Result<Vec<u8>> {
-    let mut child = Command::new(program).stdin(Stdio::piped()).stdout(Stdio::piped()).spawn()?;
+    let named = |error: io::Error| io::Error::new(error.kind(), format!("{}: {error}", program.display()));
+    let mut child = Command::new(program).stdin(Stdio::piped()).stdout(Stdio::piped()).spawn().map_err(named)?;
     let mut stdin = child.stdin.take().ok_or(io::ErrorKind::BrokenPipe)?;
     let input = input.to_vec();
     // A program that stops reading early closes the pipe: what it printed decides.
@@ -101,30 +104,52 @@ pub struct Compared {
     pub lines: u64,
 }
 
-/// Compares the program on the texts of these seeds. What was compared, or how many lines were printed up to the first that differs, and the shortest
-/// text found that the program answers otherwise.
+/// What is printed for an input.
+pub type Prints<'a> = &'a dyn Fn(&[u8]) -> io::Result<Vec<u8>>;
+
+/// Compares what is printed with what should be, on the texts of these seeds. What was compared, or how many lines were printed up to the first that differs,
+/// and the shortest text found that is answered otherwise.
 pub fn compare(
-    program: &Path,
+    is: Prints,
+    should: Prints,
     text: impl Fn(u64) -> Vec<u8>,
     seeds: impl IntoIterator<Item = u64>,
 ) -> io::Result<Result<Compared, String>> {
     let mut compared = Compared::default();
     for seed in seeds {
         let input = text(seed);
-        let (is, should) = (printed(program, &input)?, lift(&input));
-        if is != should {
-            let same = is.iter().zip(&should).take_while(|(one, other)| one == other).count();
-            let lines = compared.lines + count_lines(&should[..same]) + 1;
-            let input = shortest(program, input)?;
-            let (is, should) = (printed(program, &input)?, lift(&input));
+        let (found, expected) = (is(&input)?, should(&input)?);
+        if found != expected {
+            let same = found.iter().zip(&expected).take_while(|(one, other)| one == other).count();
+            let lines = compared.lines + count_lines(&expected[..same]) + 1;
+            let input = shortest(is, should, input)?;
             let show = |bytes: &[u8]| bytes.escape_ascii().to_string().replace("\\n", "\\n\n");
-            let texts = format!("input:\n{}\nprinted:\n{}\nshould be:\n{}", show(&input), show(&is), show(&should));
+            let texts = format!("input:\n{}\nprinted:\n{}\nshould be:\n{}", show(&input), show(&is(&input)?), show(&should(&input)?));
             return Ok(Err(format!("difference after {lines} lines, seed {seed}\n{texts}")));
         }
         compared.texts += 1;
-        compared.lines += count_lines(&should);
+        compared.lines += count_lines(&expected);
     }
     Ok(Ok(compared))
+}
+
+/// What a program that compares prints and ends with, on texts of all kinds, or of just so many lines each where that is not 0.
+pub fn report(what: &str, is: Prints, should: Prints, seeds: Range<u64>, lines: usize) -> ExitCode {
+    let text = |seed| if lines == 0 { text(seed) } else { of_lines(seed, lines) };
+    match compare(is, should, text, seeds) {
+        Ok(Ok(compared)) => {
+            println!("{what}{} texts, {} lines, no difference", compared.texts, compared.lines);
+            ExitCode::SUCCESS
+        }
+        Ok(Err(difference)) => {
+            println!("{what}{difference}");
+            ExitCode::FAILURE
+        }
+        Err(error) => {
+            eprintln!("{what}{error}");
+            ExitCode::from(2)
+        }
+    }
 }
 
 fn count_lines(printed: &[u8]) -> u64 {
@@ -135,7 +160,7 @@ fn count_lines(printed: &[u8]) -> u64 {
 const RUNS: usize = 500;
 
 /// Removes runs of lines, long runs first, as long as the outputs differ.
-fn shortest(program: &Path, input: Vec<u8>) -> io::Result<Vec<u8>> {
+fn shortest(is: Prints, should: Prints, input: Vec<u8>) -> io::Result<Vec<u8>> {
     let mut left = RUNS;
     let mut lines: Vec<Vec<u8>> = input.split_inclusive(|&byte| byte == b'\n').map(<[u8]>::to_vec).collect();
     let mut size = lines.len().div_ceil(2);
@@ -146,7 +171,7 @@ fn shortest(program: &Path, input: Vec<u8>) -> io::Result<Vec<u8>> {
             let mut fewer = lines.clone();
             fewer.drain(at..(at + size).min(fewer.len()));
             let candidate = fewer.concat();
-            if printed(program, &candidate)? != lift(&candidate) {
+            if is(&candidate)? != should(&candidate)? {
                 lines = fewer;
             } else {
                 at += size;

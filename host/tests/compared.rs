@@ -8,12 +8,16 @@ use host::layout::{is_sound_memory, to_bytes, EDITION};
 use host::scheduler::EDITIONS;
 use host::shapes::SHAPES;
 
+/// Two million calls; with the exported libraries, more than a million of them are Puts and Nexts that support's engine made beside the adapter's.
 #[test]
 fn all_shapes_in_turn() {
-    match run_seeds(&mut common::engine(), 1, 2_000_000) {
+    let mut engine = common::engine();
+    match run_seeds(&mut engine, 1, 2_000_000) {
         Ok(calls) => assert!(calls >= 2_000_000),
         Err(report) => panic!("{report}"),
     }
+    #[cfg(feature = "linked")]
+    assert!(engine.puts_and_nexts >= 1_000_000, "{}", engine.puts_and_nexts);
 }
 
 #[test]

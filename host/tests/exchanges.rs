@@ -6,6 +6,7 @@ mod rattle;
 
 use std::mem::{discriminant, swap};
 
+use host::beside::Beside;
 use host::compare::run_seeds;
 use host::engine::Engine;
 use host::history::Call;
@@ -23,6 +24,9 @@ const ENTRIES: [(&str, Call); 8] = [
     ("uplink_lead", Call::Lead { w1: 0, v1: 0, w2: 0, v2: 0 }),
 ];
 
+/// And those of support's engine.
+const SUPPORT: [(&str, Call); 2] = [("plain_put", ENTRIES[2].1), ("plain_next", ENTRIES[4].1)];
+
 /// What is taken in each other's place.
 #[derive(Clone, Copy, Debug)]
 enum Two {
@@ -30,15 +34,16 @@ enum Two {
     StateAndAnswer,
 }
 
-/// The engine under test with two parameters of one kind of call exchanged.
-struct Exchanged {
+/// An engine with two parameters of one kind of call exchanged.
+struct Exchanged<E> {
+    engine: E,
     of: Call,
     two: Two,
 }
 
-impl Exchanged {
-    fn made(&self, mut call: Call, state: &mut [u8], answer: &mut [u8]) -> u32 {
-        let mut engine = common::engine();
+impl<E: Engine> Exchanged<E> {
+    fn made(&mut self, mut call: Call, state: &mut [u8], answer: &mut [u8]) -> u32 {
+        let engine = &mut self.engine;
         if discriminant(&call) != discriminant(&self.of) {
             return engine.call(&call, state, answer);
         }
@@ -54,7 +59,7 @@ impl Exchanged {
     }
 }
 
-impl Engine for Exchanged {
+impl<E: Engine> Engine for Exchanged<E> {
     fn start(&mut self, state: &mut [u8], edition: u32) -> u32 {
         self.made(Call::Start { edition }, state, &mut [])
     }
@@ -103,7 +108,7 @@ fn every_exchange_is_found() {
     let mut tried = 0;
     for (entry, of) in ENTRIES {
         for two in exchanges(of) {
-            let found = run_seeds(&mut Exchanged { of, two }, 1, 200_000);
+            let found = run_seeds(&mut Exchanged { engine: common::adapter(), of, two }, 1, 200_000);
             assert!(found.is_err(), "{entry}: {two:?} exchanged, and no difference");
             tried += 1;
         }
@@ -111,11 +116,27 @@ fn every_exchange_is_found() {
     assert_eq!(tried, 20);
 }
 
+/// Those of support's engine, beside the adapter's as it is.
+#[test]
+fn every_exchange_of_support_is_found() {
+    let mut tried = 0;
+    for (entry, of) in SUPPORT {
+        for two in exchanges(of) {
+            let exchanged = Exchanged { engine: common::plain(), of, two };
+            let found = run_seeds(&mut Beside::new(common::adapter(), exchanged), 1, 200_000);
+            assert!(found.is_err(), "{entry}: {two:?} exchanged, and no difference");
+            tried += 1;
+        }
+    }
+    assert_eq!(tried, 8);
+}
+
 /// The calls here have as many numbers as the entries of the code.
 #[test]
 fn every_parameter_is_tried() {
-    let entries = functions(&source("driver/src/lib.rt")).into_iter().filter(|function| function.exported);
+    let entries = ["driver/src/lib.rt", "support/src/lib.rt"].into_iter().flat_map(|file| functions(&source(file)));
+    let entries = entries.filter(|function| function.exported);
     let numbers = entries.map(|entry| (entry.name, entry.parameters.iter().filter(|(_, kind)| kind == "u32").count()));
-    let tried = ENTRIES.map(|(entry, mut call)| (entry.to_string(), call.numbers().len()));
-    assert_eq!(numbers.collect::<Vec<_>>(), tried);
+    let tried = ENTRIES.into_iter().chain(SUPPORT).map(|(entry, mut call)| (entry.to_string(), call.numbers().len()));
+    assert_eq!(numbers.collect::<Vec<_>>(), tried.collect::<Vec<_>>());
 }

@@ -1,5 +1,5 @@
 //! include/uplink.h against what it declares: the numbers of the proved code, the limits of the specs, the lengths that the entries take, and their parameters. It
-//! is typed by hand and nothing proves it, so each name of it is looked up, and one that is not known here is a mistake.
+//! is typed by hand and nothing proves it, so each name of it is looked up, and one that is not known here is a mistake. include/plain.h is held against it.
 
 mod common;
 mod rattle;
@@ -20,9 +20,14 @@ fn read(path: &str) -> String {
     fs::read_to_string(Path::new(env!("CARGO_MANIFEST_DIR")).join(path)).unwrap_or_else(|error| panic!("{path}: {error}"))
 }
 
-/// The header without its comments.
+/// The header of the adapter's entries.
 fn header() -> String {
-    let text = read("../include/uplink.h");
+    header_of("uplink")
+}
+
+/// A header without its comments.
+fn header_of(name: &str) -> String {
+    let text = read(&format!("../include/{name}.h"));
     text.split("/*").map(|part| part.split_once("*/").map_or(part, |(_, after)| after)).collect()
 }
 
@@ -207,18 +212,18 @@ fn declared(text: &str, before: &str, parameter: impl Fn(&str) -> (String, Strin
     found
 }
 
-/// The entries of the header.
-fn in_c() -> BTreeMap<String, Parameters> {
-    declared(&header(), "\nuint32_t ", |parameter| {
+/// The entries of a header.
+fn in_c(header: &str) -> BTreeMap<String, Parameters> {
+    declared(&header_of(header), "\nuint32_t ", |parameter| {
         let name = parameter.rfind([' ', '*']).expect("a type and a name") + 1;
         (parameter[..name].trim().to_string(), parameter[name..].to_string())
     })
 }
 
-/// The entries of the proved code. A slice is a pointer and a length in C, and one that is only read points to const.
-fn in_rattle() -> BTreeMap<String, Parameters> {
+/// The entries of a crate of the proved code. A slice is a pointer and a length in C, and one that is only read points to const.
+fn in_rattle(name: &str) -> BTreeMap<String, Parameters> {
     let mut entries = BTreeMap::new();
-    for entry in functions(&source("driver/src/lib.rt")).into_iter().filter(|function| function.exported) {
+    for entry in functions(&source(&format!("{name}/src/lib.rt"))).into_iter().filter(|function| function.exported) {
         assert_eq!(entry.result, "u32", "{}", entry.name);
         let mut parameters = Vec::new();
         for (name, kind) in entry.parameters {
@@ -238,9 +243,9 @@ fn in_rattle() -> BTreeMap<String, Parameters> {
     entries
 }
 
-/// The entries as the wrapper declares them.
-fn in_rust() -> BTreeMap<String, Parameters> {
-    declared(&read("uplink/src/entries.rs"), "\n    pub fn ", |parameter| {
+/// The entries as a file of Rust declares them.
+fn in_rust(file: &str) -> BTreeMap<String, Parameters> {
+    declared(&read(file), "\n    pub fn ", |parameter| {
         let (name, kind) = parameter.split_once(": ").expect("a name and a type");
         let kind = match kind {
             "u32" => "uint32_t",
@@ -255,7 +260,7 @@ fn in_rust() -> BTreeMap<String, Parameters> {
 
 /// The same entries with the same parameters, in the order of their places.
 fn compare(declared: BTreeMap<String, Parameters>) {
-    let entries = in_rattle();
+    let entries = in_rattle("driver");
     assert_eq!(declared.keys().collect::<Vec<_>>(), entries.keys().collect::<Vec<_>>());
     for (name, parameters) in declared {
         assert_eq!(parameters, entries[&name], "{name}, beside crates/driver/src/lib.rt");
@@ -264,10 +269,24 @@ fn compare(declared: BTreeMap<String, Parameters>) {
 
 #[test]
 fn entries_have_the_parameters_of_the_code() {
-    compare(in_c());
+    compare(in_c("uplink"));
 }
 
 #[test]
 fn entries_have_the_parameters_of_the_code_in_rust() {
-    compare(in_rust());
+    compare(in_rust("uplink/src/entries.rs"));
+}
+
+/// include/plain.h has Put and Next under names of its own, with the uplink's parameters, and no number that could differ from the uplink's.
+#[test]
+fn plain_declares_the_calls_of_the_uplink() {
+    let (uplink, header) = (in_c("uplink"), header_of("plain"));
+    assert!(header.contains("#include \"uplink.h\""));
+    assert_eq!(header.lines().filter(|line| line.starts_with("#define")).collect::<Vec<_>>(), ["#define PLAIN_H"]);
+    for entries in [in_c("plain"), in_rust("src/entries.rs"), in_rattle("support")] {
+        assert_eq!(entries.keys().collect::<Vec<_>>(), ["plain_next", "plain_put"]);
+        for (name, parameters) in entries {
+            assert_eq!(parameters, uplink[&name.replace("plain_", "uplink_")], "{name}");
+        }
+    }
 }

@@ -1,7 +1,7 @@
 //! The pictures of docs/ are those that the code draws, and the runs under them are those that document 01 lists.
 #![cfg(feature = "linked")]
 
-use host::pictures::runs::{plain, smoothed, Load, Sending};
+use host::pictures::runs::{in_one_go, smoothed, Load, Sending};
 use host::pictures::share::farthest;
 use host::pictures::{all, order, share, COMMAND, FOLDER};
 use host::scheduler::cost_of;
@@ -52,7 +52,7 @@ fn the_largest_distance_is_from_the_share() {
 #[test]
 fn both_end_a_round_on_the_ideal_lines() {
     let round = share::LOAD.round();
-    for sendings in [spread(share::LOAD, round), plain(share::LOAD, round)] {
+    for sendings in [spread(share::LOAD, round), in_one_go(share::LOAD, round)] {
         for (slot, &weight) in share::LOAD.weights.iter().enumerate() {
             assert!(2 * weight <= share::LOAD.records);
             assert_eq!(share::curve(slot, &sendings).last(), Some(&(13 * 1_024, u64::from(weight) * 1_024)));
@@ -63,13 +63,14 @@ fn both_end_a_round_on_the_ideal_lines() {
 /// What README.md says of the pictures, under "What smoothed buys".
 #[test]
 fn what_smoothed_buys() {
-    let (smooth, in_one_go) = (spread(order::LOAD, 32), plain(order::LOAD, 32));
+    let (smooth, other) = (spread(order::LOAD, 32), in_one_go(order::LOAD, 32));
     for (slot, &weight) in order::LOAD.weights.iter().enumerate() {
-        let (wait, plain_wait) = (order::longest_wait(slot, &smooth), order::longest_wait(slot, &in_one_go));
-        assert!(if weight == 1 { wait == plain_wait } else { 2 * wait < plain_wait }, "slot {slot}: {wait}, {plain_wait}");
+        let (wait, other_wait) = (order::longest_wait(slot, &smooth), order::longest_wait(slot, &other));
+        assert!(if weight == 1 { wait == other_wait } else { 2 * wait < other_wait }, "slot {slot}: {wait}, {other_wait}");
     }
     // Distances are times the sum of the weights.
     let record = cost_of(u64::from(share::LOAD.length)) * share::LOAD.round() as u64;
-    let [near, far] = [spread(share::LOAD, 26), plain(share::LOAD, 26)].map(|sendings| farthest(share::LOAD.weights, &sendings).distance);
+    let [near, far] =
+        [spread(share::LOAD, 26), in_one_go(share::LOAD, 26)].map(|sendings| farthest(share::LOAD.weights, &sendings).distance);
     assert!(near < record && far > 3 * record, "{near}, {far}, {record}");
 }

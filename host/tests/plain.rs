@@ -1,97 +1,74 @@
-//! Plain deficit round robin is what the literature says: a quantum by weight, a deficit that is kept, a list in the order of joining.
+//! Support's engine beside the adapter's. Every compared run of the exported libraries has both; here are Nexts that take many terms, and wrong engines in the place
+//! of support's, which the comparison has to find.
 
-use host::plain::{Plain, Sent};
-use host::random::Random;
-use host::scheduler::{cost_of, Scheduler, GRANT, LONGEST, MOST_WAITING};
+mod common;
+mod wrong;
 
-/// Channels of these weights, each with records of these lengths.
-fn filled(weights: &[u64], lengths: &[u64]) -> Plain {
-    let mut plain = Plain::default();
-    for &weight in weights {
-        let slot = plain.open(weight);
-        lengths.iter().for_each(|&length| plain.put(slot, length));
-    }
-    plain
-}
+use host::beside::Beside;
+use host::compare::{run, run_all, run_seeds};
+use host::history::{Call, History, Step};
+use host::layout::to_bytes;
+use host::scheduler::{Kind, Scheduler, EDITIONS, LARGEST_WEIGHT, LONGEST, SLOTS};
+use host::states::{channel, door, with_rows};
+use wrong::{Slip, Wrong};
 
-fn slots(plain: &mut Plain, sends: usize) -> Vec<usize> {
-    (0..sends).map(|_| plain.next().unwrap().slot).collect()
-}
+/// Rows read in slot order; the term one position late; a round's end without the order afresh; the order of the rows before the new one joined.
+const SLIPS: [Slip; 4] = [Slip::SlotOrder, Slip::TermLate, Slip::EndKeepsOrder, Slip::OrderBeforeJoin];
 
-/// Document 000, section 1: "a continuous period of time in proportion to the weight of the flow".
-#[test]
-fn a_quantum_by_weight_in_one_go() {
-    let mut plain = filled(&[1, 4, 8, 3], &[1_014; 16]);
-    let round = [0, 1, 1, 1, 1, 2, 2, 2, 2, 2, 2, 2, 2, 3, 3, 3];
-    assert_eq!(slots(&mut plain, 16), round);
-    assert_eq!(slots(&mut plain, 16), round);
-}
-
-/// What a visit leaves is added to the next quantum: 1,024 - 610 = 414, and 414 + 1,024 is enough for two records of 600.
-#[test]
-fn the_rest_is_kept_while_records_wait() {
-    let mut plain = filled(&[1, 1], &[600, 600, 600, 600]);
-    assert_eq!(plain.next(), Some(Sent { slot: 0, length: 600, started: true }));
-    assert_eq!(plain.channels[0].deficit, 414);
-    assert_eq!(slots(&mut plain, 6), [1, 0, 0, 1, 1, 0]);
-    assert_eq!(plain.channels[1].deficit, 218);
-}
-
-#[test]
-fn an_emptied_channel_leaves_without_its_rest_and_joins_at_the_end() {
-    let mut plain = filled(&[2, 1, 1], &[100]);
-    plain.put(1, 1_000);
-    assert_eq!(plain.next(), Some(Sent { slot: 0, length: 100, started: true }));
-    assert_eq!((plain.channels[0].deficit, plain.visit), (0, false));
-    plain.put(0, 1);
-    assert_eq!(plain.rows, [1, 2, 0]);
-    assert_eq!(slots(&mut plain, 4), [1, 2, 0, 1]);
-    assert_eq!(plain.next(), None);
-    assert_eq!(plain, filled(&[2, 1, 1], &[]));
-}
-
-/// Over any number of visits the records of a channel that always has some cost its quanta less the rest, and the rest is below the longest one's cost.
-#[test]
-fn costs_by_quantum_for_any_lengths() {
-    let mut random = Random::new(51);
-    let weights = [5, 1, 3];
-    let mut plain = filled(&weights, &[]);
-    let mut length = || random.from_to(1, LONGEST);
-    for slot in 0..weights.len() {
-        (0..MOST_WAITING).for_each(|_| plain.put(slot, length()));
-    }
-    let (mut visits, mut costs) = ([0; 3], [0; 3]);
-    for _ in 0..20_000 {
-        let sent = plain.next().unwrap();
-        visits[sent.slot] += u64::from(sent.started);
-        costs[sent.slot] += cost_of(sent.length);
-        plain.put(sent.slot, length());
-        let rest = plain.channels[sent.slot].deficit;
-        assert_eq!(costs[sent.slot] + rest, visits[sent.slot] * weights[sent.slot] * GRANT);
-        assert!(plain.visit || rest < cost_of(LONGEST));
-        // A round visits each channel once.
-        assert!(visits[0] - visits[2] <= 1 && visits[0] >= visits[1] && visits[1] >= visits[2]);
+/// Nexts from each of these states.
+fn compare(states: impl IntoIterator<Item = Scheduler>, nexts: usize) -> u64 {
+    let steps = vec![Step::Call(Call::Next); nexts];
+    let history = |(seed, state): (usize, Scheduler)| {
+        assert!(state.sound());
+        History { seed: seed as u64, shape: "Nexts alone", memory: to_bytes(&state), steps: steps.clone() }
+    };
+    match run_all(&mut common::engine(), states.into_iter().enumerate().map(history)) {
+        Ok(calls) => calls,
+        Err(report) => panic!("{report}"),
     }
 }
 
-/// With weights of 1 there is nothing to smooth: the independent scheduler and this one send alike.
+/// A row of weight 1 under every order and from every position: in edition 2 up to 2^k - 1 terms are taken one at a time.
 #[test]
-fn weights_of_1_are_served_alike() {
-    let mut random = Random::new(52);
-    let (mut scheduler, mut plain) = (Scheduler::fresh(1), filled(&[1; 7], &[]));
-    for slot in 0..7 {
-        scheduler.open(1).unwrap();
-        for reference in 0..8 {
-            let length = random.from_to(1, LONGEST);
-            scheduler.put(slot, 1, length as u32, reference).unwrap();
-            plain.put(slot as usize, length);
+fn every_position_of_a_held_order() {
+    let positions = |order: u64| (0..(1 << order) - 1).map(move |position| door(order, position, &[LONGEST; 3]));
+    assert_eq!(compare((1..=12).flat_map(positions), 3), 3 * (8_190 - 12));
+}
+
+/// A channel in every slot, joined from the last slot to the first, all weights alike or each its own bit: a whole round of Nexts in both editions.
+#[test]
+fn every_row_of_the_matrix() {
+    let weights: [fn(usize) -> u64; 4] = [|_| 1, |_| LARGEST_WEIGHT, |slot| 1 << (slot % 12), |slot| LARGEST_WEIGHT - slot as u64];
+    let rows: Vec<usize> = (0..SLOTS).rev().collect();
+    for edition in EDITIONS {
+        for weight in weights {
+            let open = |slot: usize| (slot, channel(Kind::Open, 1, weight(slot), 0, 8, &[LONGEST; 8]));
+            let channels: Vec<_> = (0..SLOTS).map(open).collect();
+            assert_eq!(compare([with_rows(edition, &channels, &rows)], 8 * SLOTS), 512);
         }
     }
-    for _ in 0..2_000 {
-        let (sent, expected) = (scheduler.next().unwrap(), plain.next().unwrap());
-        assert_eq!((sent.slot as usize, u64::from(sent.length), sent.started), (expected.slot, expected.length, expected.started));
-        let length = random.from_to(1, LONGEST);
-        scheduler.put(sent.slot, 1, length as u32, 0).unwrap();
-        plain.put(expected.slot, length);
+}
+
+/// Wrong engines in the place of support's. The first engine is right, so it is their difference from it that is found.
+#[test]
+fn a_wrong_engine_is_found() {
+    for slip in SLIPS {
+        let Err(report) = run_seeds(&mut Beside::new(common::adapter(), Wrong(slip)), 1, 200_000) else {
+            panic!("{slip:?} was not found");
+        };
+        println!("# {slip:?}\n{report}");
+        assert!(report.difference.what.starts_with("the second engine beside the first: "), "{slip:?}: {report}");
+        assert!(report.history.steps.len() <= 20, "{slip:?}: the history is not short");
+        assert!(report.to_string().contains(&format!("seed {}", report.history.seed)), "{slip:?}");
+        assert!(run(&mut common::engine(), &report.history).is_ok(), "{slip:?}: the history blames a right engine");
+    }
+}
+
+/// And where both are wrong alike, the independent scheduler finds it.
+#[test]
+fn two_wrong_engines_are_found() {
+    for slip in SLIPS {
+        let report = run_seeds(&mut Beside::new(Wrong(slip), Wrong(slip)), 1, 200_000).unwrap_err();
+        assert!(!report.difference.what.contains("the second engine"), "{slip:?}: {report}");
     }
 }

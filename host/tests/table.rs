@@ -1,4 +1,5 @@
-//! The table of terms stays out of what adapters and the command program carry: it is crates/terms, and neither their crates nor their bytes have it.
+//! The table of terms stays out of what adapters and the command program carry: it is crates/terms, and neither their crates nor their bytes have it. The archive of
+//! support's engine has it.
 
 mod rattle;
 
@@ -55,7 +56,7 @@ fn neither_entries_nor_program_are_made_of_it() {
         assert!(crates.contains("spread") && crates.contains("bits"), "{name} is made of {crates:?}");
         assert!(!crates.contains("terms"), "{name} links the table of terms");
     }
-    assert!(linked_by("terms").contains("terms"));
+    assert!(linked_by("support").contains("terms"));
 }
 
 #[test]
@@ -66,6 +67,13 @@ fn neither_archive_nor_program_has_its_bytes() {
         assert!(bytes.len() > 10_000, "{path} has {} bytes", bytes.len());
         assert!(!holds_terms(&bytes), "{path} has terms of the table in it");
     }
+}
+
+/// Support's engine takes its terms from the table: the same search finds it there.
+#[test]
+#[cfg(feature = "linked")]
+fn the_archive_of_support_has_its_bytes() {
+    assert!(holds_terms(&read("target/staticlib/libsupport.a")));
 }
 
 /// The search finds the table whole, and cut into the stretches that compiled code may keep of it: any of them, between other bytes.

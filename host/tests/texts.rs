@@ -1,23 +1,43 @@
-//! The comparison of texts, on the program made of the independent scheduler; with a real `lift`, use the program `lift_compare`.
+//! The comparison of texts, on the programs made of the independent scheduler; with a real `lift` and `matrix`, use the programs `lift_compare` and `matrix_compare`.
 
+use std::io::Result;
 use std::path::Path;
 
 use host::lift::lift;
-use host::texts::{compare, of_lines, of_most_lines, text};
+use host::page::{matrix, without_pages};
+use host::texts::{compare, of_lines, of_most_lines, printed, text};
+
+fn lift_model(input: &[u8]) -> Result<Vec<u8>> {
+    printed(Path::new(env!("CARGO_BIN_EXE_lift_model")), input)
+}
+
+fn matrix_model(input: &[u8]) -> Result<Vec<u8>> {
+    printed(Path::new(env!("CARGO_BIN_EXE_matrix_model")), input)
+}
 
 #[test]
-fn the_model_program_passes() {
-    let program = Path::new(env!("CARGO_BIN_EXE_lift_model"));
-    assert_eq!(compare(program, text, 1..120).unwrap().unwrap().texts, 119);
+fn the_model_programs_pass() {
+    let compared = compare(&lift_model, &|input| Ok(lift(input)), text, 1..120).unwrap().unwrap();
+    assert_eq!(compared.texts, 119);
+    let with_pages = compare(&matrix_model, &|input| Ok(matrix(input)), text, 1..120).unwrap().unwrap();
+    assert!(with_pages.lines > compared.lines + 10_000, "{with_pages:?} {compared:?}");
+    let without = compare(&|input| Ok(without_pages(&matrix_model(input)?)), &lift_model, text, 1..120).unwrap().unwrap();
+    assert_eq!(without, compared);
 }
 
 /// `cat` prints the commands themselves: one line is enough to see that.
 #[test]
 #[cfg(unix)]
 fn another_program_does_not() {
-    let difference = compare(Path::new("cat"), text, 1..20).unwrap().unwrap_err();
-    assert!(difference.contains("should be:"), "{difference}");
-    assert!(difference.starts_with("difference after 1 lines") && difference.lines().count() <= 12, "{difference}");
+    let cat = |input: &[u8]| printed(Path::new("cat"), input);
+    for should in [lift, matrix] {
+        let difference = compare(&cat, &|input| Ok(should(input)), text, 1..20).unwrap().unwrap_err();
+        assert!(difference.contains("should be:"), "{difference}");
+        assert!(difference.starts_with("difference after 1 lines") && difference.lines().count() <= 12, "{difference}");
+    }
+    // A `lift` has no pages.
+    let difference = compare(&lift_model, &|input| Ok(matrix(input)), text, 1..20).unwrap().unwrap_err();
+    assert!(difference.lines().count() <= 24 && difference.contains("|  order"), "{difference}");
 }
 
 /// Every line of a long text is a command, and most calls are accepted. Both limits of waiting records are met from the fresh state.

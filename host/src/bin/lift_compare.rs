@@ -6,7 +6,8 @@ use std::env;
 use std::path::Path;
 use std::process::ExitCode;
 
-use host::texts;
+use host::lift::lift;
+use host::texts::{printed, report};
 
 fn main() -> ExitCode {
     let words: Vec<String> = env::args().skip(1).collect();
@@ -15,19 +16,6 @@ fn main() -> ExitCode {
         eprintln!("lift_compare program [texts] [seed] [lines]");
         return ExitCode::from(2);
     };
-    let text = |seed| if lines == 0 { texts::text(seed) } else { texts::of_lines(seed, lines as usize) };
-    match texts::compare(Path::new(program), text, seed..seed.saturating_add(count)) {
-        Ok(Ok(compared)) => {
-            println!("{} texts, {} lines, no difference", compared.texts, compared.lines);
-            ExitCode::SUCCESS
-        }
-        Ok(Err(difference)) => {
-            println!("{difference}");
-            ExitCode::FAILURE
-        }
-        Err(error) => {
-            eprintln!("{program}: {error}");
-            ExitCode::from(2)
-        }
-    }
+    let is = |input: &[u8]| printed(Path::new(program), input);
+    report("", &is, &|input| Ok(lift(input)), seed..seed.saturating_add(count), lines as usize)
 }

@@ -1,7 +1,7 @@
 //! Compared runs for as long as asked.
 //!
-//! `soak [calls N | seconds N] [seed N]`: the exported library with feature `linked`, else the model engine. Prints the calls compared and
-//! calls per second; a difference is printed with the shortest history found, and the result is 1.
+//! `soak [calls N | seconds N] [seed N]`: the exported libraries with feature `linked`, support's engine beside the adapter's, else the model engine. Prints the calls
+//! compared and calls per second; a difference is printed with the shortest history found, and the result is 1.
 
 use std::env;
 use std::process::ExitCode;
@@ -10,9 +10,9 @@ use std::time::{Duration, Instant};
 use host::compare::run_seeds;
 
 #[cfg(feature = "linked")]
-const ENGINE: (&str, host::linked::Entries) = ("the exported library", host::linked::LINKED);
+const NAME: &str = "the exported libraries";
 #[cfg(not(feature = "linked"))]
-const ENGINE: (&str, host::model::Model) = ("the model engine", host::model::Model);
+const NAME: &str = "the model engine";
 
 /// Calls compared between two looks at the clock.
 const STRETCH: u64 = 5_000;
@@ -28,7 +28,10 @@ fn main() -> ExitCode {
         eprintln!("soak [calls N | seconds N] [seed N]");
         return ExitCode::from(2);
     };
-    let (name, mut engine) = ENGINE;
+    #[cfg(feature = "linked")]
+    let mut engine = host::linked::both();
+    #[cfg(not(feature = "linked"))]
+    let mut engine = host::model::Model;
     let begin = Instant::now();
     // Each stretch has its own range of seeds.
     let (mut compared, mut seed) = (0, wanted.seed);
@@ -43,7 +46,7 @@ fn main() -> ExitCode {
         seed = seed.wrapping_add(STRETCH);
     }
     let seconds = begin.elapsed().as_secs_f64();
-    println!("{name}, seed {}: {compared} calls compared, no difference; {:.0} calls per second", wanted.seed, compared as f64 / seconds);
+    println!("{NAME}, seed {}: {compared} calls compared, no difference; {:.0} calls per second", wanted.seed, compared as f64 / seconds);
     ExitCode::SUCCESS
 }
 

@@ -1,8 +1,8 @@
 //! The pictures in docs/: drawn from runs of the exported calls and of the independent scheduler, from the layout's table of fields and from the table that
 //! `bench` printed.
 //!
-//! - [`order`]: which channel sends when, smoothed and plain;
-//! - [`share`]: the bytes of each channel against its share, smoothed and plain;
+//! - [`order`]: which channel sends when, smoothed and in one go;
+//! - [`share`]: the bytes of each channel against its share, smoothed and in one go;
 //! - [`door`]: how long a light channel waits beside a heavy one that empties and refills, in both editions;
 //! - [`memory`]: every field of the lent memory to scale;
 //! - [`speed`]: the times of docs/SPEED.md;

@@ -1,6 +1,6 @@
-//! docs/order.svg: the first round of document 01's check 5, send by send, and the same channels under plain deficit round robin.
+//! docs/order.svg: the first round of document 01's check 5, send by send, and the same channels under deficit round robin.
 
-use super::runs::{plain, smoothed, Load, Scan, Sending};
+use super::runs::{in_one_go, smoothed, Load, Scan, Sending};
 use super::svg::{grouped, listed, solid, Pair, Picture, CHANNELS, GREY, HEAD, LEFT, MIDDLE, PALE, RIGHT, WHITE};
 use crate::scheduler::GRANT;
 
@@ -33,7 +33,7 @@ pub fn picture() -> String {
     panel(&mut picture, 140.0, &sendings);
 
     picture.words(HEAD, (20.0, 316.0), &format!("Plain deficit round robin: weight x {} bytes in one go", grouped(GRANT)));
-    panel(&mut picture, 328.0, &plain(LOAD, 2 * round));
+    panel(&mut picture, 328.0, &in_one_go(LOAD, 2 * round));
 
     legend(&mut picture, 492.0);
     picture.finish()

@@ -1,9 +1,9 @@
-//! What pictures of sends are drawn from: the exported calls, and plain deficit round robin, on the same channels.
+//! What pictures of sends are drawn from: the exported calls, and deficit round robin, on the same channels.
 
 use uplink::{term, Edition, Memory};
 
+use crate::deficit::RoundRobin;
 use crate::layout;
-use crate::plain::Plain;
 use crate::scheduler::cost_of;
 
 /// Channels of these weights in slots 0, 1, ..., each with so many records of one length before the first send.
@@ -59,15 +59,15 @@ fn sent(memory: &mut Memory) -> (Sending, Scan) {
     (Sending { slot: sent.slot as usize, cost: cost_of(u64::from(sent.length)) }, Scan { position, term, column: order - term })
 }
 
-/// So many sends of plain deficit round robin.
-pub fn plain(load: Load, sends: usize) -> Vec<Sending> {
-    let mut plain = Plain::default();
+/// So many sends of deficit round robin.
+pub fn in_one_go(load: Load, sends: usize) -> Vec<Sending> {
+    let mut channels = RoundRobin::default();
     for &weight in load.weights {
-        let slot = plain.open(u64::from(weight));
+        let slot = channels.open(u64::from(weight));
         for _ in 0..load.records {
-            plain.put(slot, u64::from(load.length));
+            channels.put(slot, u64::from(load.length));
         }
     }
-    let mut next = || plain.next().expect("a record waits");
+    let mut next = || channels.next().expect("a record waits");
     (0..sends).map(|_| next()).map(|sent| Sending { slot: sent.slot, cost: cost_of(sent.length) }).collect()
 }

@@ -1,7 +1,7 @@
-//! docs/share.svg: the bytes that each channel has sent, its records' framing included, against its ideal line, smoothed beside plain (document 000,
+//! docs/share.svg: the bytes that each channel has sent, its records' framing included, against its ideal line, smoothed beside deficit round robin (document 000,
 //! figure 1, draws such curves).
 
-use super::runs::{plain, smoothed, Load, Sending};
+use super::runs::{in_one_go, smoothed, Load, Sending};
 use super::svg::{dashed, grouped, listed, solid, Pair, Picture, Stroke, BLACK, CHANNELS, GREY, HEAD, LEFT, MIDDLE, PALE, RIGHT};
 use crate::scheduler::{cost_of, GRANT};
 
@@ -45,7 +45,7 @@ pub fn picture() -> String {
     let sends = ROUNDS * LOAD.round();
     let sendings: Vec<Sending> = smoothed(LOAD, sends).into_iter().map(|(sending, _)| sending).collect();
     panel(&mut picture, 50.0, "Smoothed: the exported calls", &sendings);
-    panel(&mut picture, 500.0, "Plain deficit round robin", &plain(LOAD, sends));
+    panel(&mut picture, 500.0, "Plain deficit round robin", &in_one_go(LOAD, sends));
     legend(&mut picture, 506.0);
     picture.finish()
 }

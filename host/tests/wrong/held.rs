@@ -5,6 +5,7 @@ use host::engine::Engine;
 use host::layout;
 use host::model::Model;
 use host::scheduler::Scheduler;
+use host::spread::term_of;
 
 use super::{Slip, Wrong};
 
@@ -47,6 +48,7 @@ impl Wrong {
         let (mut terms, mut ended) = (0, false);
         while scheduler.edition == 2 && !self.is(Slip::TwoTermsAlone) || terms < 2 {
             scheduler.take_term();
+            self.late(scheduler);
             terms += 1;
             if !scheduler.scan.to_visit.is_empty() {
                 return Ok(if ended { terms } else { self.jump(scheduler, terms) });
@@ -59,6 +61,16 @@ impl Wrong {
         }
         scheduler.scan = before;
         Err(Refusal::NoRow)
+    }
+
+    /// The table is read one position late, but for the last: the column is that of the next term.
+    fn late(&self, scheduler: &mut Scheduler) {
+        let (order, last) = (scheduler.order, (1 << scheduler.order) - 1);
+        if self.is(Slip::TermLate) && scheduler.scan.position < last {
+            let column = order - term_of(order, scheduler.scan.position + 1);
+            scheduler.scan.to_visit = scheduler.column(column).into_iter().collect();
+            scheduler.scan.column = if scheduler.scan.to_visit.is_empty() { 0 } else { column };
+        }
     }
 
     /// A jump over empty columns that is one multiple short or one too far: the rows' columns come at multiples of 2^(k - their order).

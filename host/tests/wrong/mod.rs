@@ -106,6 +106,9 @@ impl Wrong {
         if self.is(Slip::PutLowersOrder) && waiting == 1 {
             after.order = after.order_of_rows();
         }
+        if self.is(Slip::OrderBeforeJoin) {
+            after.order = before.order;
+        }
         if self.is(Slip::SerialStops) && before.channels[slot].next_serial == 65_535 {
             after.channels[slot].next_serial = 65_535;
         }

@@ -1,4 +1,5 @@
 //! The slips of the wrong engines, one each.
+#![allow(dead_code)]
 
 #[derive(Clone, Copy, Debug, PartialEq, Eq)]
 pub enum Slip {
@@ -16,6 +17,8 @@ pub enum Slip {
     // Other slips in the rules.
     LessForAtMost,
     SlotOrder,
+    TermLate,
+    OrderBeforeJoin,
     ColumnKept,
     SerialStops,
     RiseMovesPosition,
@@ -78,7 +81,7 @@ pub enum Slip {
 }
 
 impl Slip {
-    pub const ALL: [Slip; 64] = [
+    pub const ALL: [Slip; 66] = [
         Slip::SlotNotTicket,
         Slip::JoinsTheScan,
         Slip::DeficitKept,
@@ -90,6 +93,8 @@ impl Slip {
         Slip::OneByteLonger,
         Slip::LessForAtMost,
         Slip::SlotOrder,
+        Slip::TermLate,
+        Slip::OrderBeforeJoin,
         Slip::ColumnKept,
         Slip::SerialStops,
         Slip::RiseMovesPosition,

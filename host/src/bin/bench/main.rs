@@ -1,9 +1,10 @@
 //! How long the exported calls take: `bench [--beside path/to/another/libdriver.a]`. Prints tables; docs/SPEED.md has the first, of edition 1, and its picture
-//! is drawn from there. The second is the same of edition 2, the third has single Nexts where edition 2 holds the order.
+//! is drawn from there. The second is the same of edition 2, the third has single Nexts where edition 2 holds the order. The last has Next and Put of support's
+//! engine (include/plain.h) beside the adapter's.
 //!
 //! All columns are measured in turn in the same run and are medians over many batches, so that their ratios mean something on any machine:
 //! - call: Next and Put in pairs, so that the fill stays the same, per call;
-//! - next: Next alone, four in a row (what they sent is put back without being timed);
+//! - next: Next alone, four in a row (what they sent is put back in a time of its own, which only the last table has);
 //! - check: a refused call (Ask of slot 64), which is the check of the memory alone;
 //! - read: the bytes of the memory taken together by `or`, once;
 //! - plain check: the memory checked record by record, straight on the bytes;
@@ -27,8 +28,8 @@ use host::layout;
 use host::linked::Entries;
 use host::pictures::speed::NAMES;
 use host::scheduler::{Scheduler, EDITIONS, LONGEST};
-use host::states::door;
-use side::{Archive, Side, OWN};
+use host::states::{crowd, door};
+use side::{Archive, Side, OWN, SUPPORT};
 
 const BATCHES: usize = 301;
 /// Repetitions in a batch.
@@ -70,6 +71,7 @@ fn main() -> ExitCode {
         print!("\n{}", table(*edition, lines));
     }
     print!("\n{}", held());
+    print!("\n{}", by_hand());
     if archives.len() > 1 {
         println!("\nthe linked archive and the one beside it, and the linked one's time divided by the other's");
         for (edition, lines) in &of_editions {
@@ -112,7 +114,12 @@ fn measured(edition: u64, channels: u32, records: u32, archives: &[Archive]) -> 
             plain[2].push(batch(2, || plain_pair(&mut scheduler, &bytes)));
         }
     }
-    let times = |side: Option<Side>| side.map(|side| side.times.map(median));
+    let times = |side: Option<Side>| {
+        side.map(|side| {
+            let [call, next, check, _] = side.times.map(median);
+            [call, next, check]
+        })
+    };
     Line { exported: sides.into_iter().map(times).collect(), plain: plain.map(median) }
 }
 
@@ -158,7 +165,7 @@ fn held() -> String {
     let mut times: [Vec<f64>; 4] = Default::default();
     for _ in 0..BATCHES {
         for ((_, terms, scheduler), times) in kept.iter().zip(&mut times) {
-            times.push(next_from(&layout::to_bytes(scheduler), *terms));
+            times.push(next_from(OWN, &layout::to_bytes(scheduler), *terms));
         }
     }
     let times = times.map(median);
@@ -169,9 +176,9 @@ fn held() -> String {
     text
 }
 
-/// Nanoseconds of a Next from this memory, which takes so many terms.
-fn next_from(bytes: &[u8], terms: u32) -> f64 {
-    let mut sides = [(); ROW].map(|_| Side::lent(OWN, bytes).expect("the linked archive takes a sound memory"));
+/// Nanoseconds of an engine's Next from this memory, which takes so many terms.
+fn next_from(engine: Archive, bytes: &[u8], terms: u32) -> f64 {
+    let mut sides = [(); ROW].map(|_| Side::lent(engine, bytes).expect("the linked archives take a sound memory"));
     let mut nanoseconds = 0;
     for _ in 0..TIMES / ROW {
         sides.iter_mut().for_each(|side| side.memory.copy_from_slice(bytes));
@@ -181,6 +188,47 @@ fn next_from(bytes: &[u8], terms: u32) -> f64 {
         assert!(sent.iter().all(|sent| sent.terms == terms));
     }
     nanoseconds as f64 / (TIMES / ROW * ROW) as f64
+}
+
+/// Next and Put of support's engine beside the adapter's, in each fill and edition, and the longest Nexts. No row is named by its fill alone, so docs/SPEED.md can have
+/// this table beside the one that its picture is drawn from.
+fn by_hand() -> String {
+    let mut text = "| channels x records | uplink_next | plain_next | ratio | uplink_put | plain_put | ratio |\n".to_string()
+        + &"|---".repeat(7)
+        + "|\n";
+    let mut line = |name: String, [own, support]: [[Option<f64>; 2]; 2]| {
+        let cells = [0, 1].map(|call| [shown(own[call], 0), shown(support[call], 0), ratio(support[call], own[call])].join(" | "));
+        let _ = writeln!(text, "| {name} | {} |", cells.join(" | "));
+    };
+    for (edition, &(channels, records)) in EDITIONS.into_iter().flat_map(|edition| FILLS[1..].iter().map(move |fill| (edition, fill))) {
+        let bytes = layout::to_bytes(&filled(edition, channels, records));
+        let mut sides = [OWN, SUPPORT].map(|engine| Side::lent(engine, &bytes).expect("the linked archives take a sound memory"));
+        for _ in 0..BATCHES {
+            sides.iter_mut().for_each(Side::measure_alone);
+        }
+        let times = sides.map(|side| {
+            let [_, next, _, put] = side.times.map(median);
+            [next, put]
+        });
+        line(format!("edition {edition}: {channels} x {records}"), times);
+    }
+    let light = |position| door(12, position, &[LONGEST; WAITING]);
+    let longest = [
+        ("one row of weight 1 under order 12", light(1), 2_047),
+        ("the same, through a round's end", light(2_048), 2_048),
+        ("64 rows of weight 1 under order 12", crowd(12, 1), 2_047),
+    ];
+    for (name, state, terms) in longest {
+        let bytes = layout::to_bytes(&state);
+        let mut times: [Vec<f64>; 2] = Default::default();
+        for _ in 0..BATCHES {
+            for (engine, times) in [OWN, SUPPORT].into_iter().zip(&mut times) {
+                times.push(next_from(engine, &bytes, terms));
+            }
+        }
+        line(format!("edition 2: {name}, {terms} terms"), times.map(|times| [median(times), None]));
+    }
+    text
 }
 
 /// A row of a table for each fill. Those of edition 1 are named by their fill alone.

@@ -1,4 +1,4 @@
-//! One archive under measurement, on memories of its own.
+//! One engine under measurement, on memories of its own.
 
 use std::hint::black_box;
 use std::time::Instant;
@@ -6,7 +6,7 @@ use std::time::Instant;
 use host::answers::{Fields, Sent};
 use host::engine::Engine;
 use host::layout::{CELLS, EDITION, LENGTH, LENGTHS};
-use host::linked::{Entries, LINKED};
+use host::linked::{Entries, LINKED, PLAIN};
 use host::model::answer_fields;
 
 use super::{batch, TIMES};
@@ -20,6 +20,8 @@ pub struct Archive {
 
 /// The linked one.
 pub const OWN: Archive = Archive { entries: LINKED, length: LENGTH };
+/// The same with Put and Next of support's engine.
+pub const SUPPORT: Archive = Archive { entries: PLAIN, length: LENGTH };
 /// Another archive's memory is looked for up to this length.
 const LONGEST_MEMORY: usize = 16_384;
 
@@ -49,8 +51,8 @@ pub struct Side {
     /// The memory that is sent from and put into, and one that only a refused call is lent.
     pub memory: Vec<u8>,
     lent: Vec<u8>,
-    /// Nanoseconds of call, next and check, batch by batch.
-    pub times: [Vec<f64>; 3],
+    /// Nanoseconds of call, next, check and put, batch by batch.
+    pub times: [Vec<f64>; 4],
 }
 
 impl Side {
@@ -68,8 +70,7 @@ impl Side {
         if sends {
             let pairs = batch(2, || self.pair());
             self.times[0].push(pairs);
-            let nexts = self.next_alone();
-            self.times[1].push(nexts);
+            self.measure_alone();
         }
         let checks = batch(1, || self.refused());
         self.times[2].push(checks);
@@ -93,16 +94,19 @@ impl Side {
         self.put(sent);
     }
 
-    /// Nanoseconds of a Next.
-    fn next_alone(&mut self) -> f64 {
-        let mut nanoseconds = 0;
+    /// Next alone, four in a row, and Put alone, which puts back what they sent.
+    pub fn measure_alone(&mut self) {
+        let (mut nexts, mut puts) = (0, 0);
         for _ in 0..TIMES / 4 {
             let begin = Instant::now();
             let sent: [Sent; 4] = std::array::from_fn(|_| self.next());
-            nanoseconds += begin.elapsed().as_nanos();
+            nexts += begin.elapsed().as_nanos();
+            let begin = Instant::now();
             sent.into_iter().for_each(|sent| self.put(sent));
+            puts += begin.elapsed().as_nanos();
         }
-        nanoseconds as f64 / TIMES as f64
+        self.times[1].push(nexts as f64 / TIMES as f64);
+        self.times[3].push(puts as f64 / TIMES as f64);
     }
 
     fn refused(&mut self) {

@@ -1,4 +1,4 @@
-//! Plain deficit round robin, the scheduler that smoothed round robin is measured against (document 000, section 1: it "will serve a flow for
+//! Deficit round robin, the scheduler that smoothed round robin is measured against (document 000, section 1: it "will serve a flow for
 //! a continuous period of time in proportion to the weight of the flow").
 //!
 //! The channels with records waiting stand in a list, in the order in which they joined. The first of them is visited: its deficit grows by its
@@ -26,7 +26,7 @@ pub struct Sent {
 }
 
 #[derive(Clone, Debug, Default, PartialEq, Eq)]
-pub struct Plain {
+pub struct RoundRobin {
     /// By slot; none is ever closed.
     pub channels: Vec<Channel>,
     /// The slots with a record waiting. While a visit is open, its slot is the first.
@@ -35,7 +35,7 @@ pub struct Plain {
     pub visit: bool,
 }
 
-impl Plain {
+impl RoundRobin {
     /// Opens a channel in the next slot.
     pub fn open(&mut self, weight: u64) -> usize {
         self.channels.push(Channel { weight, deficit: 0, lengths: VecDeque::new() });
