@@ -41,6 +41,15 @@ R 8
     assert_eq!(sends(input), output);
 }
 
+/// The page that README.md shows is what its command prints.
+#[test]
+fn the_readme_page() {
+    let readme = include_str!("../../README.md");
+    let command = readme.lines().find_map(|line| line.trim().strip_prefix("printf '")?.strip_suffix("' | bin/matrix")).expect("a command");
+    let page: Vec<&str> = readme.lines().filter_map(|line| line.strip_prefix("    ")).filter(|line| line.starts_with('|')).collect();
+    assert!(page.len() > 2 && printed(&command.replace("\\n", "\n")).ends_with(&(page.join("\n") + "\n")));
+}
+
 /// Weights 5, 1 and 1. P 2 has no row, so the second call takes two terms. The third sends slot 0's last record at P 4: the order falls to 1 with slots 1 and 2
 /// still to visit, and P becomes 4 mod 2.
 #[test]

@@ -20,28 +20,28 @@ use Rattle.text.specs.Answers.{said, answerTo, lineAnswer, output}
 use Rattle.text.proofs.DigitLaws.{digits-one, digits-more, by-digits}
 
 -- no byte is a line feed
-abbrev NoFeed : List ℕ → Type 0
+abbrev pub NoFeed : List ℕ → Type 0
 NoFeed [] = Unit {0}
 NoFeed (c ∷ cs) = (eqb c 10 ≡ false) × NoFeed cs
 
-no-feed-append : (a b : List ℕ) → NoFeed a → NoFeed b → NoFeed (a ++ b)
+pub no-feed-append : (a b : List ℕ) → NoFeed a → NoFeed b → NoFeed (a ++ b)
 no-feed-append [] b h k = k
 no-feed-append (c ∷ a) b h k = (h .0, no-feed-append a b (h .1) k)
 
 no-feed-digit : (d : ℕ) → eqb (48 + d) 10 ≡ false
 no-feed-digit d = ne-eqb (48 + d) 10 (λ e. omega arith)
 
-no-feed-digits : (n : ℕ) → NoFeed (digits n)
+pub no-feed-digits : (n : ℕ) → NoFeed (digits n)
 no-feed-digits =
     by-digits (λ n. NoFeed (digits n)) (λ n h. subst NoFeed (sym (digits-one n h)) (no-feed-digit n, tt))
     (λ n h k. subst NoFeed (sym (digits-more n h)) (no-feed-append (digits (n / 10)) ((48 + n % 10) ∷ []) k (no-feed-digit (n % 10), tt)))
 
-no-feed-spaced : (ns : List ℕ) → NoFeed (spaced ns)
+pub no-feed-spaced : (ns : List ℕ) → NoFeed (spaced ns)
 no-feed-spaced [] = tt
 no-feed-spaced (n ∷ ns) = (refl, no-feed-append (digits n) (spaced ns) (no-feed-digits n) (no-feed-spaced ns))
 
 -- a line and its line feed are the first line of what begins with them
-line-first : (l rest : List ℕ) → NoFeed l → linesOf (l ++ 10 ∷ rest) ≡ l ∷ linesOf rest
+pub line-first : (l rest : List ℕ) → NoFeed l → linesOf (l ++ 10 ∷ rest) ≡ l ∷ linesOf rest
 unfolding linesOf
 line-first [] rest h = refl
 line-first (c ∷ l) rest h = rw (h .0, line-first l rest (h .1))

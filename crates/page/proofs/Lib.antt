@@ -1,0 +1,6 @@
+pub mod PutLaws
+pub mod PageLaws
+pub mod RoomLaws
+pub mod ChosenPage
+pub mod Sample
+pub mod BarredLines

@@ -1,0 +1,4 @@
+pub mod Puts
+pub mod Page
+pub mod InNumbers
+pub mod Output
