@@ -2,8 +2,9 @@
  * The C entries on memory that ends where nobody may touch the next byte: each call is made three times, on buffers that end at a
  * forbidden page, on buffers that begin behind one, and on buffers of just their length from malloc, and must do the same each time.
  * First comes a script whose answers are known, field by field; then calls at random in each edition, of which enough must be accepted. They begin
- * where every cell is taken. A refusal must be one that the call can give, keep the state and write 0 to every field. Run as "sanitized [calls] [seed]";
- * host/README.md has the commands. Exits with 1 for a library that does anything else: refuses.c and keeps.c are two.
+ * where every cell is taken. A refusal must be one that the call can give, keep the state and a lent image and write 0 to every field. Run as
+ * "sanitized [calls] [seed]"; host/README.md has the commands. Exits with 1 for a library that does anything else: refuses.c,
+ * keeps.c and writes.c are three.
  */
 #define _DEFAULT_SOURCE
 #include <inttypes.h>
@@ -15,29 +16,33 @@
 #include "uplink.h"
 
 enum { PAGE = 4096, SPACE = 2 * PAGE, PLACES = 3, WIDEST = 64, PAINT = 0xa5 };
-/* The cells for records, the state ahead of them, which take six bytes each, and where its edition stands. */
-enum { CELLS = UPLINK_SLOTS * UPLINK_KEPT + UPLINK_SHARED, HEADS = UPLINK_STATE_LENGTH - 6 * CELLS, EDITION = HEADS - 50 };
-enum kind { START, OPEN, PUT, CLOSE, NEXT, ASK, LEAD, TERM, KINDS };
+/* The cells for records, the state ahead of them, which take six bytes each, and where its edition and its mark stand. */
+enum { CELLS = UPLINK_SLOTS * UPLINK_KEPT + UPLINK_SHARED, HEADS = UPLINK_STATE_LENGTH - 6 * CELLS, EDITION = HEADS - 50, MARK = EDITION + 1 };
+/* Those up to UNPARK take a state. */
+enum kind { START, OPEN, PUT, CLOSE, NEXT, ASK, PARK, UNPARK, LEAD, TERM, KINDS };
 
-static const char *const names[KINDS] = {"start", "open", "put", "close", "next", "ask", "lead", "term"};
+static const char *const names[KINDS] = {"start", "open", "put", "close", "next", "ask", "park", "unpark", "lead", "term"};
 static const size_t right[KINDS] = {0, UPLINK_OPEN_LENGTH, UPLINK_PUT_LENGTH, UPLINK_CLOSE_LENGTH, UPLINK_NEXT_LENGTH, UPLINK_ASK_LENGTH,
-                                    UPLINK_LEAD_LENGTH, UPLINK_TERM_LENGTH};
+                                    UPLINK_PARK_LENGTH, 0, UPLINK_LEAD_LENGTH, UPLINK_TERM_LENGTH};
 
 struct call {
     enum kind kind;
     uint32_t numbers[4];
     size_t state_length, answer_length;
+    /* Of park and unpark: the lent buffer and what stands in it before the call. */
+    size_t image_length;
+    const uint8_t *image;
 };
 
 /* What a call leaves. */
 struct left {
     uint32_t number;
-    uint8_t state[SPACE], answer[WIDEST];
+    uint8_t state[SPACE], answer[WIDEST], image[SPACE];
 };
 
 /* ---- The places that buffers are lent from: 0 ends at a forbidden page, 1 begins behind one, 2 is from malloc. */
 
-static uint8_t *rooms[2][2];
+static uint8_t *rooms[2][3];
 
 static uint8_t *forbidden(void)
 {
@@ -60,7 +65,7 @@ static void given_back(uint8_t *bytes, int place)
 
 /* ---- A call, and what every call keeps to. */
 
-static uint32_t made(const struct call *c, uint8_t *state, uint8_t *answer)
+static uint32_t made(const struct call *c, uint8_t *state, uint8_t *image, uint8_t *answer)
 {
     const uint32_t *n = c->numbers;
     size_t s = c->state_length, a = c->answer_length;
@@ -71,6 +76,8 @@ static uint32_t made(const struct call *c, uint8_t *state, uint8_t *answer)
     case CLOSE: return uplink_close(state, s, n[0], n[1], answer, a);
     case NEXT: return uplink_next(state, s, answer, a);
     case ASK: return uplink_ask(state, s, n[0], n[1], answer, a);
+    case PARK: return uplink_park(state, s, image, c->image_length, answer, a);
+    case UNPARK: return uplink_unpark(state, s, image, c->image_length);
     case LEAD: return uplink_lead(n[0], n[1], n[2], n[3], answer, a);
     default: return uplink_term(n[0], n[1], answer, a);
     }
@@ -78,21 +85,26 @@ static uint32_t made(const struct call *c, uint8_t *state, uint8_t *answer)
 
 static void made_at(int place, const struct call *c, const uint8_t *before, struct left *left)
 {
-    uint8_t *state = lent(0, place, c->state_length), *answer = lent(1, place, c->answer_length);
+    uint8_t *state = lent(0, place, c->state_length), *answer = lent(1, place, c->answer_length), *image = lent(2, place, c->image_length);
     memcpy(state, before, c->state_length);
     memset(answer, PAINT, c->answer_length);
-    left->number = made(c, state, answer);
+    if (c->image_length > 0)
+        memcpy(image, c->image, c->image_length);
+    left->number = made(c, state, image, answer);
     memcpy(left->state, state, c->state_length);
     memcpy(left->answer, answer, c->answer_length);
+    memcpy(left->image, image, c->image_length);
     given_back(state, place);
     given_back(answer, place);
+    given_back(image, place);
 }
 
 /* The numbers that each call can give, by docs/ANSWERS.md, and 0 behind them. No sound state gives 9. */
 static int can_give(enum kind kind, uint32_t number)
 {
-    static const uint32_t numbers[KINDS][8] = {{10, 12}, {10, 6, 7}, {10, 1, 2, 3, 4, 5, 13}, {10, 1, 2, 3}, {10, 8}, {10, 1, 2}, {10, 6}, {10, 11}};
-    for (int i = 0; i < 8; i++)
+    static const uint32_t numbers[KINDS][9] = {{10, 12}, {10, 14, 6, 7}, {10, 14, 1, 2, 3, 4, 5, 13}, {10, 14, 1, 2, 3}, {10, 14, 8},
+                                               {10, 14, 1, 2}, {10, 14, 16}, {10, 15}, {10, 6}, {10, 11}};
+    for (int i = 0; i < 9; i++)
         if (numbers[kind][i] == number)
             return 1;
     return 0;
@@ -119,32 +131,59 @@ static const char *start_fault(const struct call *c, const struct left *left)
     return NULL;
 }
 
+/* What is wrong with a park that was accepted, or NULL: the state is marked and else kept, the image is as long as it says, and the bytes behind it are kept. */
+static const char *park_fault(const struct call *c, const uint8_t *before, const struct left *left)
+{
+    const uint8_t *image = left->image;
+    uint32_t length = uplink_field(left->answer, 0);
+    if (before[MARK] != 0 || left->state[MARK] != 1 || memcmp(before, left->state, MARK) != 0 ||
+        memcmp(before + MARK + 1, left->state + MARK + 1, UPLINK_STATE_LENGTH - MARK - 1) != 0)
+        return "a park changes more than the mark, or not the mark";
+    if (length > c->image_length || length > UPLINK_IMAGE_LENGTH || length < 5)
+        return "no image has that length";
+    if (image[0] != 1 || ((uint32_t)image[1] << 24 | (uint32_t)image[2] << 16 | (uint32_t)image[3] << 8 | image[4]) != length - 5)
+        return "the image begins otherwise than with its version and length";
+    if (memcmp(image + length, c->image + length, c->image_length - length) != 0)
+        return "a byte behind the image is changed";
+    return NULL;
+}
+
 /* What is wrong with a call, or NULL. */
 static const char *fault(const struct call *c, const uint8_t *before, const struct left *left)
 {
     int kept = memcmp(left->state, before, c->state_length) == 0, refused = left->number != UPLINK_ACCEPTED;
+    int image_kept = c->image_length == 0 || memcmp(left->image, c->image, c->image_length) == 0;
     if (!can_give(c->kind, left->number))
         return "a number that this call never gives";
     if (c->answer_length != right[c->kind])
         return left->number != UPLINK_UNSOUND ? "an answer of wrong length is taken"
-               : !kept || !all_are(PAINT, left->answer, c->answer_length) ? "an answer of wrong length, and a buffer is touched"
+               : !kept || !image_kept || !all_are(PAINT, left->answer, c->answer_length) ? "an answer of wrong length, and a buffer is touched"
                                                                          : NULL;
-    if (c->kind <= ASK && c->state_length != UPLINK_STATE_LENGTH && left->number != UPLINK_UNSOUND)
+    if (c->kind <= UNPARK && c->state_length != UPLINK_STATE_LENGTH && left->number != UPLINK_UNSOUND)
         return "a state of wrong length is taken";
-    if (!kept && (refused || c->kind >= ASK))
+    if (!kept && (refused || c->kind == ASK || c->kind > UNPARK))
         return "the state is changed";
+    if (!image_kept && (refused || c->kind != PARK))
+        return "the image is changed";
     if (refused && !all_are(0, left->answer, c->answer_length))
         return "a refusal leaves a field that is not 0";
     if (c->kind == START)
         return start_fault(c, left);
+    if (c->kind == PARK && !refused)
+        return park_fault(c, before, left);
+    if (c->kind == UNPARK && !refused && left->state[MARK] != 0)
+        return "a state that was read is parked";
+    if (left->number == UPLINK_PARKED && before[MARK] != 1)
+        return "a state that is not parked is refused as parked";
     return NULL;
 }
 
 static void stop(const char *why, const struct call *c, uint32_t number, int place)
 {
     const uint32_t *n = c->numbers;
-    printf("%s: %s(%" PRIu32 ", %" PRIu32 ", %" PRIu32 ", %" PRIu32 ") on a state of %zu bytes and an answer of %zu gave %" PRIu32 " at place %d\n", why,
-           names[c->kind], n[0], n[1], n[2], n[3], c->state_length, c->answer_length, number, place);
+    printf("%s: %s(%" PRIu32 ", %" PRIu32 ", %" PRIu32 ", %" PRIu32 ") on a state of %zu bytes, an image of %zu and an answer of %zu gave %" PRIu32
+           " at place %d\n",
+           why, names[c->kind], n[0], n[1], n[2], n[3], c->state_length, c->image_length, c->answer_length, number, place);
     exit(1);
 }
 
@@ -158,7 +197,7 @@ static void everywhere(const struct call *c, const uint8_t *before, struct left 
             *first = left;
         const char *why = fault(c, before, &left);
         if (!why && (left.number != first->number || memcmp(left.answer, first->answer, c->answer_length) != 0 ||
-                     memcmp(left.state, first->state, c->state_length) != 0))
+                     memcmp(left.state, first->state, c->state_length) != 0 || memcmp(left.image, first->image, c->image_length) != 0))
             why = "another outcome than at place 0";
         if (why)
             stop(why, c, left.number, place);
@@ -274,13 +313,55 @@ static const struct step script[] = {
     {NEXT, {0}, UPLINK_NONE_WAITS, {0}},
 };
 
+/* Parked queues: a channel with one record, in an image of 20 bytes, a row, 64 entries of 12 and a record of 6. The number of park and unpark is the length of
+   the buffer; what unpark is lent is the image written last, with the bytes behind it. */
+enum { ONE = 20 + 1 + UPLINK_SLOTS * 12 + 6 };
+
+static const struct step parked[] = {
+    {START, {2}, 0, {0}},
+    {OPEN, {5}, 0, {0, 1}},
+    {PUT, {0, 1, 600, 8}, 0, {0, 1}},
+    {PARK, {ONE - 1}, UPLINK_SHORT_BUFFER, {0}},
+    {PARK, {0}, UPLINK_SHORT_BUFFER, {0}},
+    {PARK, {ONE}, 0, {ONE}},
+    {PARK, {ONE}, UPLINK_PARKED, {0}},
+    {PARK, {0}, UPLINK_PARKED, {0}},
+    {OPEN, {0}, UPLINK_PARKED, {0}},
+    {PUT, {0, 1, 600, 9}, UPLINK_PARKED, {0}},
+    {CLOSE, {0, 1}, UPLINK_PARKED, {0}},
+    {NEXT, {0}, UPLINK_PARKED, {0}},
+    {ASK, {UPLINK_SLOTS, 1}, UPLINK_PARKED, {0}},
+    {TERM, {4, 8}, 0, {4}},
+    {LEAD, {3, 2, 2, 3}, 0, {5, 0}},
+    {UNPARK, {0}, UPLINK_BAD_IMAGE, {0}},
+    {UNPARK, {ONE - 1}, UPLINK_BAD_IMAGE, {0}},
+    {UNPARK, {ONE + 1}, UPLINK_BAD_IMAGE, {0}},
+    {NEXT, {0}, UPLINK_PARKED, {0}},
+    {UNPARK, {ONE}, 0, {0}},
+    {PUT, {0, 1, 100, 9}, 0, {1, 2}},
+    {NEXT, {0}, 0, {0, 1, 600, 8, 0, 1, 1}},
+    /* Over a state that goes on: what it had is lost. */
+    {UNPARK, {ONE}, 0, {0}},
+    {NEXT, {0}, 0, {0, 1, 600, 8, 0, 1, 1}},
+    {NEXT, {0}, UPLINK_NONE_WAITS, {0}},
+    {PARK, {UPLINK_IMAGE_LENGTH}, 0, {ONE - 7}},
+    {START, {3}, UPLINK_BAD_EDITION, {0}},
+    {ASK, {0, 1}, UPLINK_PARKED, {0}},
+    {START, {1}, 0, {0}},
+    {ASK, {0, 1}, UPLINK_NOT_PRESENT, {0}},
+};
+
 static uint8_t kept[SPACE]; /* the state that the calls go on from */
+static uint8_t written[SPACE], painted[SPACE]; /* the image that was written last, in its buffer, and what such a buffer holds before */
+static size_t written_length;
 static unsigned long steps;
 
 static void known(struct step step)
 {
     static struct left left;
-    struct call c = {step.kind, {0}, UPLINK_STATE_LENGTH, right[step.kind]};
+    struct call c = {step.kind, {0}, UPLINK_STATE_LENGTH, right[step.kind], 0, NULL};
+    if (step.kind == PARK || step.kind == UNPARK)
+        c.image_length = step.numbers[0], c.image = step.kind == PARK ? painted : written;
     memcpy(c.numbers, step.numbers, sizeof c.numbers);
     everywhere(&c, kept, &left);
     if (left.number != step.number)
@@ -289,6 +370,8 @@ static void known(struct step step)
         if (uplink_field(left.answer, i) != step.fields[i])
             stop("another field than the script's", &c, left.number, 0);
     memcpy(kept, left.state, UPLINK_STATE_LENGTH);
+    if (step.kind == PARK && left.number == UPLINK_ACCEPTED)
+        memcpy(written, left.image, c.image_length), written_length = uplink_field(left.answer, 0);
     steps++;
 }
 
@@ -315,6 +398,13 @@ static void run_full(uint32_t edition)
     known((struct step){NEXT, {0}, 0, {0, 1, UPLINK_LONGEST, 0, 0, 1, 1}});
     known((struct step){PUT, {UPLINK_SLOTS - 1, 1, 1, 7}, 0, {UPLINK_KEPT, UPLINK_KEPT + 1}});
     known((struct step){PUT, {0, 1, 1, 7}, UPLINK_NO_SHARED, {0}});
+    /* Every cell is taken again: the image is as long as any, and the memory that it is read into is lost before. */
+    known((struct step){PARK, {UPLINK_IMAGE_LENGTH - 1}, UPLINK_SHORT_BUFFER, {0}});
+    known((struct step){PARK, {UPLINK_IMAGE_LENGTH}, 0, {UPLINK_IMAGE_LENGTH}});
+    memset(kept, PAINT, UPLINK_STATE_LENGTH);
+    known((struct step){UNPARK, {UPLINK_IMAGE_LENGTH - 1}, UPLINK_BAD_IMAGE, {0}});
+    known((struct step){UNPARK, {UPLINK_IMAGE_LENGTH}, 0, {0}});
+    known((struct step){PUT, {0, 1, 1, 7}, UPLINK_NO_SHARED, {0}});
 }
 
 static void run_script(void)
@@ -326,6 +416,8 @@ static void run_script(void)
     known((struct step){START, {0}, UPLINK_BAD_EDITION, {0}});
     for (size_t i = 0; i < sizeof script / sizeof *script; i++)
         known(script[i]);
+    for (size_t i = 0; i < sizeof parked / sizeof *parked; i++)
+        known(parked[i]);
     known((struct step){START, {2}, 0, {0}});
     for (uint32_t slot = 0; slot < UPLINK_SLOTS; slot++)
         known((struct step){OPEN, {1}, 0, {slot, 1}});
@@ -353,17 +445,36 @@ static uint32_t any_edition(void)
     return below(8) ? 1 + below(2) : others[below(5)];
 }
 
+/* The call becomes a park, or an unpark of the image written last: in a buffer that is mostly just long enough or as long as any, and mostly whole. */
+static void to_parking(struct call *c)
+{
+    static uint8_t image[SPACE];
+    c->kind = kept[MARK] == 1 || below(2) ? UNPARK : PARK;
+    c->image_length = c->kind == PARK ? UPLINK_IMAGE_LENGTH : written_length;
+    c->image = painted;
+    if (below(4) == 0)
+        c->image_length = below(4) ? written_length - 1 + 2 * below(2) : below(SPACE);
+    if (c->kind == PARK)
+        return;
+    memcpy(image, written, sizeof image);
+    if (below(4) == 0)
+        image[below(2) ? below(written_length) : below(32)] ^= (uint8_t)(1 << below(8));
+    c->image = image;
+}
+
 /* Most calls can be accepted; one in sixteen has another length of state or answer, one in 2,000 is Start. */
 static struct call any_call(void)
 {
     static const enum kind kinds[16] = {OPEN, OPEN, PUT, PUT, PUT, PUT, PUT, PUT, CLOSE, NEXT, NEXT, NEXT, NEXT, ASK, LEAD, TERM};
-    struct call c = {below(2000) == 0 ? START : kinds[below(16)], {0}, UPLINK_STATE_LENGTH, 0};
+    struct call c = {below(2000) == 0 ? START : kinds[below(16)], {0}, UPLINK_STATE_LENGTH, 0, 0, NULL};
+    if (below(kept[MARK] == 1 ? 4 : 100) == 0)
+        to_parking(&c);
     c.answer_length = right[c.kind];
     c.numbers[0] = c.kind == START ? any_edition() : c.kind == OPEN || c.kind == LEAD ? below(4097) : c.kind == TERM ? below(14) : below(65);
     c.numbers[1] = c.kind == TERM ? below(4097) : 1 + below(below(8) ? 2 : 6);
     c.numbers[2] = c.kind == LEAD ? below(4097) : below(8) ? 1 + below(UPLINK_LONGEST) : below(UPLINK_LONGEST + 2);
     c.numbers[3] = below(UINT32_MAX);
-    if (c.kind != START && below(32) == 0)
+    if (c.kind != START && c.kind != UNPARK && below(32) == 0)
         c.answer_length = below(WIDEST);
     if (below(32) == 0)
         c.state_length = below(4) ? UPLINK_STATE_LENGTH - 1 + 2 * below(2) : below(SPACE);
@@ -371,7 +482,7 @@ static struct call any_call(void)
 }
 
 /* Of each kind at least one call in so many of all must be accepted; with the library it is twice as many. */
-static const unsigned long one_in[KINDS] = {6000, 75, 20, 120, 20, 120, 40, 250};
+static const unsigned long one_in[KINDS] = {6000, 75, 20, 120, 20, 120, 600, 320, 40, 250};
 
 /* They begin in an edition with every cell taken, and go on from there again after one Start in three, so that some meet no shared cell; a Start among them may
    take the other edition. */
@@ -392,7 +503,9 @@ static void run_at_random(unsigned long calls, uint32_t edition)
         none_shared += left.number == UPLINK_NO_SHARED;
         if (left.number == UPLINK_ACCEPTED) {
             accepted[c.kind]++;
-            if (c.kind <= ASK)
+            if (c.kind == PARK)
+                memcpy(written, left.image, c.image_length), written_length = uplink_field(left.answer, 0);
+            if (c.kind <= UNPARK)
                 memcpy(kept, c.kind == START && below(3) == 0 ? full : left.state, UPLINK_STATE_LENGTH);
         }
     }
@@ -412,8 +525,9 @@ int main(int count, char **words)
     unsigned long calls = count > 1 ? strtoul(words[1], NULL, 10) : 1000000;
     seed = (count > 2 ? strtoul(words[2], NULL, 10) : 1) * 0x9e3779b97f4a7c15u + 1;
     for (int place = 0; place < 2; place++)
-        for (int which = 0; which < 2; which++)
+        for (int which = 0; which < 3; which++)
             rooms[place][which] = forbidden();
+    memset(painted, PAINT, sizeof painted);
     run_script();
     run_at_random(calls / 2, 1);
     run_at_random(calls - calls / 2, 2);

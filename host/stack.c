@@ -10,12 +10,13 @@
 
 #include "plain.h"
 
-enum { ROOM = 1 << 16, PAINT = 0xA5, ENOUGH = 512, PLAIN_ENOUGH = 8192 };
-enum kind { NONE, START, OPEN, PUT, CLOSE, NEXT, ASK, LEAD, TERM, PLAIN_PUT, PLAIN_NEXT, KINDS };
+enum { ROOM = 1 << 16, PAINT = 0xA5, ENOUGH = 512, UNPARK_ENOUGH = 9216, PLAIN_ENOUGH = 8192 };
+enum kind { NONE, START, OPEN, PUT, CLOSE, NEXT, ASK, LEAD, TERM, PARK, UNPARK, PLAIN_PUT, PLAIN_NEXT, KINDS };
 
-static const char *const names[KINDS] = {"", "start", "open", "put", "close", "next", "ask", "lead", "term", "plain_put", "plain_next"};
+static const char *const names[KINDS] = {"", "start", "open", "put", "close", "next", "ask", "lead", "term", "park", "unpark", "plain_put", "plain_next"};
 static unsigned char stack[ROOM];
-static uint8_t state[UPLINK_STATE_LENGTH], answer[64];
+static uint8_t state[UPLINK_STATE_LENGTH], image[UPLINK_IMAGE_LENGTH], answer[64];
+static uint32_t image_length;
 static uint32_t slot, ticket, edition;
 static enum kind asked;
 static ucontext_t here, there;
@@ -31,6 +32,11 @@ static void call(void)
     case ASK: uplink_ask(state, sizeof state, slot, ticket, answer, UPLINK_ASK_LENGTH); break;
     case LEAD: uplink_lead(1, 2, 3, 4, answer, UPLINK_LEAD_LENGTH); break;
     case TERM: uplink_term(4, 8, answer, UPLINK_TERM_LENGTH); break;
+    case PARK:
+        uplink_park(state, sizeof state, image, sizeof image, answer, UPLINK_PARK_LENGTH);
+        image_length = uplink_field(answer, 0);
+        break;
+    case UNPARK: uplink_unpark(state, sizeof state, image, image_length); break;
     case PLAIN_PUT: plain_put(state, sizeof state, slot, ticket, 100, 7, answer, UPLINK_PUT_LENGTH); break;
     case PLAIN_NEXT: plain_next(state, sizeof state, answer, UPLINK_NEXT_LENGTH); break;
     default: break;
@@ -72,7 +78,7 @@ static enum kind by_matrix(enum kind kind)
 int main(void)
 {
     /* The first Put joins the rows. */
-    const enum kind calls[] = {OPEN, ASK, PUT, PUT, NEXT, NEXT, NEXT, NEXT, NEXT, NEXT, NEXT, NEXT, CLOSE, LEAD, TERM, START};
+    const enum kind calls[] = {OPEN, ASK, PUT, PUT, PARK, UNPARK, NEXT, NEXT, NEXT, NEXT, NEXT, NEXT, NEXT, NEXT, CLOSE, LEAD, TERM, START};
     long none = touched(NONE), most[KINDS] = {0};
     int wrong = 0;
     /* In edition 2 twice: the second time a heavy row leaves with the first Next, and the others go through a round's end. All again with support's engine. */
@@ -93,7 +99,7 @@ int main(void)
     }
     for (int kind = START; kind < KINDS; kind++) {
         printf("%s %ld\n", names[kind], most[kind]);
-        wrong |= most[kind] > (kind < PLAIN_PUT ? ENOUGH : PLAIN_ENOUGH);
+        wrong |= most[kind] > (kind < UNPARK ? ENOUGH : kind == UNPARK ? UNPARK_ENOUGH : PLAIN_ENOUGH);
     }
     return wrong;
 }

@@ -6,19 +6,23 @@
  * result of a call is its number: 0 if it was accepted, else one of enum uplink_refusal, and then the state keeps
  * every byte and the answer's fields are 0. An answer is a lent buffer of an exact length; its fields are 4 bytes
  * each, lowest byte first, and uplink_field reads one (uplink_lead: one field of 8 bytes, two's complement, read by
- * uplink_signed). A buffer of another length gives UPLINK_UNSOUND before all else and keeps its bytes. State and
- * answer must not overlap. No alignment is asked for. docs/ANSWERS.md has every byte.
+ * uplink_signed). A buffer of another length gives UPLINK_UNSOUND before all else, and no buffer is touched. State,
+ * image and answer must not overlap. No alignment is asked for. docs/ANSWERS.md has every byte.
  *
- * Work: a call reads the state about once; uplink_put and uplink_next then move up to 3,066 bytes of it by one place.
+ * For a change of the firmware uplink_park writes the state to an image that any later firmware reads by uplink_unpark.
+ * The state is then parked: but for uplink_start and uplink_unpark, every call on it gives UPLINK_PARKED.
+ *
+ * Work: a call reads the state about once; uplink_put and uplink_next then move up to 3,066 bytes of it by one place;
+ * uplink_park writes the image once, and uplink_unpark reads it, writes it again to compare, and writes the state.
  * Every loop has a bound, whatever bytes are lent; no call allocates, blocks, recurses or keeps a pointer. Stack: 512
- * bytes are enough for any call.
+ * bytes are enough for any call but uplink_unpark, for which 9,216 are: it builds the state aside before it writes.
  *
  * Interrupts and threads: there is no static data, so calls on different states may interrupt each other or run at the
  * same time. On one state only one call may be under way: whoever makes a call from an interrupt has to be sure that it
  * interrupts none on the same state. A call that is interrupted by another on the same state is the caller's fault, and
  * nothing here finds it.
  *
- * The archive, target/staticlib/libdriver.a, is for x86-64 Linux and needs memset, and nothing else.
+ * The archive, target/staticlib/libdriver.a, is for x86-64 Linux and needs memcpy and memset, and nothing else.
  */
 #ifndef UPLINK_H
 #define UPLINK_H
@@ -31,15 +35,17 @@ extern "C" {
 #endif
 
 /* Version of this interface: major * 10000 + minor * 100 + patch. */
-#define UPLINK_VERSION 30000
+#define UPLINK_VERSION 30100
 
-/* Lengths in bytes of the lent state and of each call's answer. */
+/* Lengths in bytes of the lent state, of the longest image and of each call's answer. */
 #define UPLINK_STATE_LENGTH 3968
+#define UPLINK_IMAGE_LENGTH 3924
 #define UPLINK_OPEN_LENGTH 8
 #define UPLINK_PUT_LENGTH 8
 #define UPLINK_CLOSE_LENGTH 4
 #define UPLINK_NEXT_LENGTH 28
 #define UPLINK_ASK_LENGTH 16
+#define UPLINK_PARK_LENGTH 4
 #define UPLINK_LEAD_LENGTH 8
 #define UPLINK_TERM_LENGTH 4
 
@@ -100,6 +106,9 @@ enum uplink_refusal {
     UPLINK_NO_TERM = 11,     /* order not 1 to 12, or position not 1 to 2^order - 1 */
     UPLINK_BAD_EDITION = 12, /* edition not 1 or 2 */
     UPLINK_NO_SHARED = 13,   /* two records or more wait, and no shared cell is free */
+    UPLINK_PARKED = 14,      /* state is parked: it takes only uplink_start and uplink_unpark */
+    UPLINK_BAD_IMAGE = 15,   /* not exactly the image of one sound state */
+    UPLINK_SHORT_BUFFER = 16 /* buffer too short for the image */
 };
 
 /*
@@ -131,6 +140,21 @@ uint32_t uplink_next(uint8_t *state, size_t state_length, uint8_t *answer, size_
 /* Tells of a channel, and changes nothing. Answer: 1 for open or 2 for closing, weight, deficit, number waiting. */
 uint32_t uplink_ask(const uint8_t *state, size_t state_length, uint32_t slot, uint32_t ticket, uint8_t *answer,
                     size_t answer_length);
+
+/*
+ * Parks the state: its image is written to the beginning of a lent buffer of image_length bytes, whose other bytes are
+ * kept. UPLINK_IMAGE_LENGTH bytes hold any image. With a buffer that is too short nothing is written or parked. Answer:
+ * the image's length.
+ */
+uint32_t uplink_park(uint8_t *state, size_t state_length, uint8_t *image, size_t image_length, uint8_t *answer,
+                     size_t answer_length);
+
+/*
+ * Makes the lent memory the state of an image, not parked: it goes on where it was parked. image_length is the image's
+ * own, as uplink_park answered it. Refused for the state's length, then for bytes that are not an image, whatever else
+ * stands in the memory; there is no answer.
+ */
+uint32_t uplink_unpark(uint8_t *state, size_t state_length, const uint8_t *image, size_t image_length);
 
 /*
  * The lead of the second channel over the first, w1 * v2 - w2 * v1, of their weights w1, w2 and visit counts v1, v2.
@@ -175,6 +199,9 @@ static inline const char *uplink_text(uint32_t number)
     case UPLINK_NO_TERM: return "no such term";
     case UPLINK_BAD_EDITION: return "no such edition";
     case UPLINK_NO_SHARED: return "no shared cell left";
+    case UPLINK_PARKED: return "state is parked";
+    case UPLINK_BAD_IMAGE: return "not the image of a state";
+    case UPLINK_SHORT_BUFFER: return "buffer too short for the image";
     default: return "not a number of these calls";
     }
 }

@@ -1,5 +1,5 @@
 //! The answers of the calls and the numbers sent back (document 01, "The calls" and "Numbers sent back"; the longest length, the room and the
-//! last two numbers are document 02's), for the independent scheduler: written from the documents, not taken from the wrapper.
+//! numbers from 12 on are document 02's), for the independent scheduler: written from the documents, not taken from the wrapper.
 
 /// Why a call is refused: the documents' number, under the header's name.
 #[derive(Clone, Copy, Debug, PartialEq, Eq)]
@@ -30,10 +30,16 @@ pub enum Refusal {
     BadEdition = 12,
     /// "exactly when the channel has two or more and the sum is 384"
     NoShared = 13,
+    /// "14 parked, after 10 in every other call"
+    Parked = 14,
+    /// "15 for an image that isn't exactly one sound state's"
+    BadImage = 15,
+    /// "16 from the writer for a buffer too short"
+    ShortBuffer = 16,
 }
 
 impl Refusal {
-    pub const ALL: [Refusal; 13] = [
+    pub const ALL: [Refusal; 16] = [
         Refusal::NoSlot,
         Refusal::NotPresent,
         Refusal::AtClosing,
@@ -47,6 +53,9 @@ impl Refusal {
         Refusal::NoTerm,
         Refusal::BadEdition,
         Refusal::NoShared,
+        Refusal::Parked,
+        Refusal::BadImage,
+        Refusal::ShortBuffer,
     ];
 
     /// The documents' number.
@@ -109,6 +118,12 @@ pub struct Told {
     pub weight: u32,
     pub deficit: u32,
     pub waiting: u32,
+}
+
+/// What the writer of the parked image answers: its length.
+#[derive(Clone, Copy, Debug, PartialEq, Eq)]
+pub struct Written {
+    pub length: u32,
 }
 
 /// An answer as document 01 lists it: its fields in order.
@@ -176,6 +191,17 @@ impl Fields for Sent {
     fn of(fields: &[u32]) -> Option<Sent> {
         let &[slot, ticket, length, reference, serial, started @ (0 | 1), terms] = fields else { return None };
         Some(Sent { slot, ticket, length, reference, serial, started: started == 1, terms })
+    }
+}
+
+impl Fields for Written {
+    fn fields(&self) -> Vec<u32> {
+        vec![self.length]
+    }
+
+    fn of(fields: &[u32]) -> Option<Written> {
+        let &[length] = fields else { return None };
+        Some(Written { length })
     }
 }
 

@@ -21,15 +21,20 @@ impl<A: Engine, B: Engine> Beside<A, B> {
     }
 
     fn both(&mut self, call: Call, state: &mut [u8], answer: &mut [u8]) -> u32 {
+        self.both_with(call, state, &mut [], answer)
+    }
+
+    fn both_with(&mut self, call: Call, state: &mut [u8], image: &mut [u8], answer: &mut [u8]) -> u32 {
         self.puts_and_nexts += u64::from(matches!(call, Call::Put { .. } | Call::Next));
-        let (mut state_copy, mut answer_copy) = (Lent::new(state), Lent::new(answer));
-        let number = self.first.call(&call, state, answer);
-        let other = self.second.call(&call, state_copy.content(), answer_copy.content());
+        let (mut state_copy, mut image_copy, mut answer_copy) = (Lent::new(state), Lent::new(image), Lent::new(answer));
+        let number = self.first.call(&call, state, image, answer);
+        let other = self.second.call(&call, state_copy.content(), image_copy.content(), answer_copy.content());
         let differs = || {
             if other != number {
                 return Some(format!("number {other}, should be {number}"));
             }
             let in_answer = answer_copy.differs(answer, |_| "the answer".to_string());
+            let in_answer = in_answer.or_else(|| image_copy.differs(image, |_| "the image".to_string()));
             in_answer.or_else(|| state_copy.differs(state, |place| format!("the memory ({})", layout::name_of(place))))
         };
         self.parted = differs().map(|what| format!("the second engine beside the first: {what}"));
@@ -60,6 +65,14 @@ impl<A: Engine, B: Engine> Engine for Beside<A, B> {
 
     fn ask(&mut self, state: &mut [u8], slot: u32, ticket: u32, answer: &mut [u8]) -> u32 {
         self.both(Call::Ask { slot, ticket }, state, answer)
+    }
+
+    fn park(&mut self, state: &mut [u8], image: &mut [u8], answer: &mut [u8]) -> u32 {
+        self.both_with(Call::Park { room: image.len() }, state, image, answer)
+    }
+
+    fn unpark(&mut self, state: &mut [u8], image: &mut [u8]) -> u32 {
+        self.both_with(Call::Unpark { image: image.to_vec() }, state, image, &mut [])
     }
 
     fn lead(&mut self, w1: u32, v1: u32, w2: u32, v2: u32, answer: &mut [u8]) -> u32 {

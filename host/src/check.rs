@@ -2,8 +2,8 @@
 //! It answers as [`crate::layout::is_sound_memory`] does, by another way, and is what the benchmark measures against.
 
 use crate::layout::{
-    Field, CELLS, COLUMN, DEFICIT, EDITION, KIND, LENGTH, LENGTHS, NEXT_SERIAL, NOTHING, ORDER, POSITION, REFERENCES, ROWS, ROW_COUNT,
-    TICKET, TO_VISIT, VISIT, WAITING, WEIGHT,
+    Field, CELLS, COLUMN, DEFICIT, EDITION, KIND, LENGTH, LENGTHS, MARK, NEXT_SERIAL, NOTHING, ORDER, POSITION, REFERENCES, ROWS,
+    ROW_COUNT, TICKET, TO_VISIT, VISIT, WAITING, WEIGHT,
 };
 use crate::scheduler::{COLUMNS, FRAMING, KEPT, LARGEST_WEIGHT, LONGEST, MOST_WAITING, SHARED, SLOTS};
 use crate::sound::{LARGEST_DEFICIT, LARGEST_IN_VISIT};
@@ -19,7 +19,7 @@ struct Slot {
 }
 
 pub fn record_by_record(bytes: &[u8]) -> bool {
-    if bytes.len() != LENGTH || bytes[NOTHING.places()].iter().any(|&byte| byte != 0) {
+    if bytes.len() != LENGTH || small(bytes, &MARK, 0) > 1 || bytes[NOTHING.places()].iter().any(|&byte| byte != 0) {
         return false;
     }
     let mut slots = [Slot::default(); SLOTS];

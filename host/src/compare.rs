@@ -1,5 +1,5 @@
 //! The comparer: each call is made on the engine under test, on lent bytes, and on the independent scheduler, on its own state.
-//! The number, every byte of the answer and every byte of the memory must agree after each call.
+//! The number, every byte of the answer, of a lent image and of the memory must agree after each call.
 
 use std::fmt;
 
@@ -60,24 +60,29 @@ pub fn run<E: Engine + ?Sized>(engine: &mut E, history: &History) -> Result<u64,
         let outcome = match step {
             Step::Call(call) => pair.call(engine, call),
             Step::Mislent { call, state_length, answer_length } => pair.mislent(engine, call, *state_length, *answer_length),
-            Step::Damage { place, flip } => pair.damage(*place, *flip),
+            Step::Damage { place, flip } => pair.changed(|bytes| bytes[*place] ^= flip),
+            Step::Lost { fill } => pair.changed(|bytes| bytes.fill(*fill)),
         };
         outcome.map_err(|what| Difference { step: number, what })?;
-        calls += u64::from(!matches!(step, Step::Damage { .. }));
+        calls += u64::from(step.is_call());
     }
     Ok(calls)
 }
 
 impl Pair {
     fn call<E: Engine + ?Sized>(&mut self, engine: &mut E, call: &Call) -> Result<(), String> {
-        let (number, expected_answer) = self.expect(call);
+        let mut image = Lent::new(&call.image());
+        let (number, expected_answer, expected_image) = self.expect(call);
         let mut answer = Lent::new(&[UNWRITTEN; 28][..call.answer_length()]);
-        let given = engine.call(call, self.lent.content(), answer.content());
+        let given = engine.call(call, self.lent.content(), image.content(), answer.content());
         parted(engine)?;
         if given != number {
             return Err(format!("number {given}, should be {number}"));
         }
         if let Some(what) = answer.differs(&expected_answer, |_| "the answer".to_string()) {
+            return Err(what);
+        }
+        if let Some(what) = image.differs(&expected_image, |_| "the image".to_string()) {
             return Err(what);
         }
         if let Some(what) = self.lent.differs(&self.expected, |place| format!("the memory ({})", layout::name_of(place))) {
@@ -86,13 +91,27 @@ impl Pair {
         Ok(())
     }
 
-    /// The number and the answer bytes that the documents give the call; the expected memory follows.
-    fn expect(&mut self, call: &Call) -> (u32, Vec<u8>) {
+    /// The number, the answer's bytes and those of the lent image that the documents give the call; the expected memory follows.
+    fn expect(&mut self, call: &Call) -> (u32, Vec<u8>, Vec<u8>) {
+        let mut image = call.image();
         let reply = match *call {
             Call::Start { edition } => Scheduler::start(edition).map(|fresh| {
                 self.scheduler = Some(fresh);
                 Vec::new()
             }),
+            // "The reader overwrites any lent state of the right length."
+            Call::Unpark { ref image } => Scheduler::unpark(image).map(|read| {
+                self.scheduler = Some(read);
+                Vec::new()
+            }),
+            // "The writer answers the image's length and keeps the buffer's other bytes."
+            Call::Park { room } => match &mut self.scheduler {
+                Some(scheduler) => scheduler.park_sound(room).map(|written| {
+                    image[..written.len()].copy_from_slice(&written);
+                    answer_bytes(&[written.len() as u32])
+                }),
+                None => Err(Refusal::Unsound),
+            },
             Call::Lead { w1, v1, w2, v2 } => spread::lead(w1, v1, w2, v2).map(|lead| lead.to_le_bytes().to_vec()),
             Call::Term { order, position } => spread::term(order, position).map(|term| answer_bytes(&[term])),
             _ => match &mut self.scheduler {
@@ -106,9 +125,9 @@ impl Pair {
                     assert!(scheduler.sound(), "the independent scheduler left an unsound state: {scheduler:?}");
                     layout::write(scheduler, &mut self.expected);
                 }
-                (0, answer)
+                (0, answer, image)
             }
-            Err(refusal) => (refusal.number(), vec![0; call.answer_length()]),
+            Err(refusal) => (refusal.number(), vec![0; call.answer_length()], image),
         }
     }
 
@@ -129,22 +148,25 @@ impl Pair {
         let mut state = Lent::new(&before);
         let unwritten = vec![UNWRITTEN; answer_length];
         let mut answer = Lent::new(&unwritten);
-        let given = engine.call(call, state.content(), answer.content());
+        let mut image = Lent::new(&call.image());
+        let given = engine.call(call, state.content(), image.content(), answer.content());
         parted(engine)?;
         if given != Refusal::Unsound.number() {
             return Err(format!("number {given}, should be 10"));
         }
         let kept = if call.takes_answer() && right_answer { vec![0; answer_length] } else { unwritten };
-        let name = |_| "the answer".to_string();
-        match answer.differs(&kept, name).or_else(|| state.differs(&before, |_| "the mislent memory".to_string())) {
+        let differs = answer.differs(&kept, |_| "the answer".to_string());
+        let differs = differs.or_else(|| image.differs(&call.image(), |_| "the image".to_string()));
+        match differs.or_else(|| state.differs(&before, |_| "the mislent memory".to_string())) {
             Some(what) => Err(what),
             None => Ok(()),
         }
     }
 
-    fn damage(&mut self, place: usize, flip: u8) -> Result<(), String> {
-        self.lent.content()[place] ^= flip;
-        self.expected[place] ^= flip;
+    /// The memory is changed from outside.
+    fn changed(&mut self, change: impl Fn(&mut [u8])) -> Result<(), String> {
+        change(self.lent.content());
+        change(&mut self.expected);
         self.scheduler = layout::sound_from_bytes(&self.expected);
         Ok(())
     }
@@ -167,6 +189,11 @@ pub fn state_call(scheduler: &mut Scheduler, call: &Call) -> Result<Vec<u32>, Re
             *scheduler = fresh;
             Vec::new()
         }),
+        Call::Park { room } => scheduler.park_sound(room).map(|image| vec![image.len() as u32]),
+        Call::Unpark { ref image } => Scheduler::unpark(image).map(|read| {
+            *scheduler = read;
+            Vec::new()
+        }),
         Call::Lead { .. } | Call::Term { .. } => Ok(Vec::new()),
     }
 }
@@ -182,8 +209,7 @@ where
         match run(engine, &history) {
             Ok(more) => calls += more,
             Err(difference) => {
-                let made = history.steps[..=difference.step].iter().filter(|step| !matches!(step, Step::Damage { .. }));
-                calls += made.count() as u64;
+                calls += history.steps[..=difference.step].iter().filter(|step| step.is_call()).count() as u64;
                 let (history, difference) = shrink(engine, history, difference);
                 return Err(Box::new(Report { calls, history, difference }));
             }

@@ -1,6 +1,7 @@
-//! Memories that break a rule of soundness, by name: each rule alone where that can be, and bytes that stand for nothing.
+//! Memories that break a rule of soundness, by name: each rule alone where that can be, and bytes that stand for nothing; and images that are none.
 
-use crate::layout::{self, CELLS, EDITION, KIND, LENGTHS, NOTHING, REFERENCES, ROWS, ROW_COUNT, VISIT, WAITING};
+use crate::image::{image_of, read, HEAD};
+use crate::layout::{self, CELLS, EDITION, KIND, LENGTHS, MARK, NOTHING, REFERENCES, ROWS, ROW_COUNT, VISIT, WAITING};
 use crate::pool::{beyond_the_limit, full};
 use crate::random::Random;
 use crate::scheduler::{Kind, Record, Scheduler, EDITIONS, FRAMING};
@@ -26,6 +27,7 @@ pub fn beyond_a_limit(random: &mut Random, from: &Scheduler) -> Scheduler {
     let mut state = from.clone();
     let choice = if state.rows.is_empty() { random.below(3) } else { random.below(8) };
     match choice {
+        2 if random.chance(1, 2) => state.mark = random.pick(&[0, 1, 2, 3, 255]),
         0 => state.scan.position = random.pick(&[(1 << state.order) - 1, 1 << state.order]),
         1 => state.order = random.pick(&[state.order + 1, state.order.saturating_sub(1), 12, 13]),
         2 => state.edition = random.pick(&[0, 1, 2, 3, 255]),
@@ -50,6 +52,32 @@ pub fn beyond_a_limit(random: &mut Random, from: &Scheduler) -> Scheduler {
     state
 }
 
+/// The image changed so that it is mostly none: a bit or a byte changed, two neighbours exchanged, cut short or made longer with or without another length in its
+/// head, or the image of a state with a number beyond its limit.
+pub fn no_image(random: &mut Random, image: &[u8]) -> Vec<u8> {
+    let mut changed = image.to_vec();
+    if image.len() <= HEAD + 1 {
+        return changed;
+    }
+    let end = random.pick(&[HEAD, 32.min(image.len()), image.len(), image.len()]);
+    let place = random.below(end as u64 - 1) as usize;
+    match random.below(7) {
+        0 => changed[place] ^= 1 << random.below(8),
+        1 => changed[place] = random.number() as u8,
+        2 => changed.swap(place, place + 1),
+        3 => changed.truncate(random.pick(&[place, image.len() - 1, HEAD])),
+        4 => changed.extend(&[0, 0, 0, 1, 255, 1][..random.from_to(1, 6) as usize]),
+        5 => {
+            let longer = random.chance(1, 2);
+            changed.resize(if longer { image.len() + 1 } else { image.len() - 1 }, 0);
+            let rest = (changed.len() - HEAD) as u32;
+            changed[1..HEAD].copy_from_slice(&rest.to_be_bytes());
+        }
+        _ => changed = read(image).map_or(changed, |state| image_of(&beyond_a_limit(random, &state))),
+    }
+    changed
+}
+
 /// A row's visit is open, and its deficit just pays for what the head costs, or a byte more, or not: for its bare length alone, or for all but one byte.
 fn visit_just_paid_for(random: &mut Random, state: &mut Scheduler) {
     let slot = state.scan.visit.unwrap_or_else(|| random.pick(&state.rows));
@@ -69,6 +97,7 @@ pub fn breakages() -> Vec<Breakage> {
     list.extend(of_edition_1());
     list.extend(of_edition_2());
     list.extend(of_no_edition());
+    list.extend(of_no_mark());
     list
 }
 
@@ -247,6 +276,20 @@ fn of_no_edition() -> Vec<Breakage> {
     ]
 }
 
+/// A mark other than 0 or 1 is none, and nothing else is made good by a mark.
+fn of_no_mark() -> Vec<Breakage> {
+    let rich = |name, rules, change: fn(&mut Scheduler)| broken(name, rules, rich(2), change);
+    vec![
+        broken("mark 2, fresh", &[Rule::Mark], Scheduler::fresh(1), |state| state.mark = 2),
+        rich("mark 2", &[Rule::Mark], |state| state.mark = 2),
+        rich("mark 3", &[Rule::Mark], |state| state.mark = 3),
+        rich("mark 128", &[Rule::Mark], |state| state.mark = 128),
+        rich("mark 255", &[Rule::Mark], |state| state.mark = 255),
+        rich("edition 3, parked", &[Rule::Edition], |state| (state.edition, state.mark) = (3, 1)),
+        rich("parked in place of its edition", &[Rule::Edition], |state| (state.edition, state.mark) = (0, 1)),
+    ]
+}
+
 /// Memories with a single wrong byte, in both editions: bytes that stand for nothing, and values that no state has.
 pub fn wrong_bytes() -> Vec<(&'static str, Vec<u8>)> {
     EDITIONS.into_iter().flat_map(wrong_bytes_of).collect()
@@ -285,7 +328,9 @@ fn wrong_bytes_of(edition: u64) -> Vec<(&'static str, Vec<u8>)> {
         ("edition 0", set(&full, EDITION.start, 0)),
         ("edition 3, fresh", set(&fresh, EDITION.start, 3)),
         ("edition 255", set(&full, EDITION.start, 255)),
-        ("the first byte after the edition", set(&rich, NOTHING.start, 1)),
+        ("mark 2, fresh", set(&fresh, MARK.start, 2)),
+        ("mark 255", set(&full, MARK.start, 255)),
+        ("the first byte after the mark", set(&rich, NOTHING.start, 1)),
         ("the last byte of the scan point's line", set(&rich, NOTHING.end() - 1, 128)),
         ("a length after the run", set(&rich, LENGTHS.at(run, 0), 1)),
         ("a length after the run, high byte", set(&rich, LENGTHS.at(run, 1), 1)),

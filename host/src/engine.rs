@@ -2,7 +2,7 @@
 
 use crate::history::Call;
 
-/// Each call answers document 01's number; the fields go to the answer buffer.
+/// Each call answers document 01's number; the fields go to the answer buffer. Unpark too is lent an image that it could write, so that the comparer would see it.
 pub trait Engine {
     fn start(&mut self, state: &mut [u8], edition: u32) -> u32;
     fn open(&mut self, state: &mut [u8], weight: u32, answer: &mut [u8]) -> u32;
@@ -10,6 +10,8 @@ pub trait Engine {
     fn close(&mut self, state: &mut [u8], slot: u32, ticket: u32, answer: &mut [u8]) -> u32;
     fn next(&mut self, state: &mut [u8], answer: &mut [u8]) -> u32;
     fn ask(&mut self, state: &mut [u8], slot: u32, ticket: u32, answer: &mut [u8]) -> u32;
+    fn park(&mut self, state: &mut [u8], image: &mut [u8], answer: &mut [u8]) -> u32;
+    fn unpark(&mut self, state: &mut [u8], image: &mut [u8]) -> u32;
     fn lead(&mut self, w1: u32, v1: u32, w2: u32, v2: u32, answer: &mut [u8]) -> u32;
     fn term(&mut self, order: u32, position: u32, answer: &mut [u8]) -> u32;
 
@@ -18,8 +20,8 @@ pub trait Engine {
         None
     }
 
-    /// The call by its name.
-    fn call(&mut self, call: &Call, state: &mut [u8], answer: &mut [u8]) -> u32 {
+    /// The call by its name. Park's buffer and Unpark's image are lent as the image, which other calls do not take.
+    fn call(&mut self, call: &Call, state: &mut [u8], image: &mut [u8], answer: &mut [u8]) -> u32 {
         match *call {
             Call::Start { edition } => self.start(state, edition),
             Call::Open { weight } => self.open(state, weight, answer),
@@ -27,6 +29,8 @@ pub trait Engine {
             Call::Close { slot, ticket } => self.close(state, slot, ticket, answer),
             Call::Next => self.next(state, answer),
             Call::Ask { slot, ticket } => self.ask(state, slot, ticket, answer),
+            Call::Park { .. } => self.park(state, image, answer),
+            Call::Unpark { .. } => self.unpark(state, image),
             Call::Lead { w1, v1, w2, v2 } => self.lead(w1, v1, w2, v2, answer),
             Call::Term { order, position } => self.term(order, position, answer),
         }

@@ -1,12 +1,15 @@
 //! Histories from seeds. A history is built beside a scheduler of its own, so that most calls are ones that can be accepted.
 
 use crate::compare::state_call;
-use crate::damage::beyond_a_limit;
+use crate::damage::{beyond_a_limit, no_image};
 use crate::history::{Call, History, Step};
+use crate::image::{image_of, LONGEST_IMAGE};
 use crate::layout;
 use crate::pool::counted_elsewhere;
 use crate::random::Random;
-use crate::scheduler::{Channel, Kind, Record, Scheduler, COLUMNS, EDITIONS, FRAMING, GRANT, LAST_TICKET, LONGEST, MOST_WAITING, SLOTS};
+use crate::scheduler::{
+    Channel, Kind, Record, Scheduler, COLUMNS, EDITIONS, FRAMING, GOING, GRANT, LAST_TICKET, LONGEST, MOST_WAITING, SLOTS,
+};
 use crate::shapes::{Action, Shape, SHAPES};
 
 const BAD_SLOTS: [u32; 7] = [64, 65, 128, 256, 320, 0x8000_0000, u32::MAX];
@@ -27,16 +30,17 @@ pub fn history_of(shape: &'static Shape, edition: u64, seed: u64) -> History {
     let now = (shape.begin)(&mut random, edition);
     assert!(now.sound(), "a history begins in a sound state: {}, seed {seed}", shape.name);
     let memory = layout::to_bytes(&now);
-    let mut builder = Builder { random, shape, now, sound: true, old: Vec::new(), steps: Vec::new() };
+    let image = image_of(&now);
+    let mut builder = Builder { random, shape, now, sound: true, old: Vec::new(), image, steps: Vec::new() };
     builder.build();
     History { seed, shape: shape.name, memory, steps: builder.steps }
 }
 
 /// Calls that `lift` has, of this shape and seed, without end. They begin on the fresh state, as `lift` does.
 pub fn commands(shape: &'static Shape, seed: u64) -> impl Iterator<Item = Call> {
-    let now = Scheduler::fresh(1);
-    let mut builder = Builder { random: Random::new(seed), shape, now, sound: true, old: Vec::new(), steps: Vec::new() };
-    let of_lift = |action| !matches!(action, Action::Ask | Action::Apart | Action::Damage | Action::Mislent | Action::Start);
+    let (now, image) = (Scheduler::fresh(1), Vec::new());
+    let mut builder = Builder { random: Random::new(seed), shape, now, sound: true, old: Vec::new(), image, steps: Vec::new() };
+    let of_lift = |action| !matches!(action, Action::Ask | Action::Apart | Action::Damage | Action::Mislent | Action::Park | Action::Start);
     let stretches = std::iter::from_fn(move || {
         builder.stretch(of_lift);
         Some(std::mem::take(&mut builder.steps))
@@ -52,6 +56,8 @@ struct Builder {
     sound: bool,
     /// Slots and tickets of channels that were closed.
     old: Vec<(u32, u32)>,
+    /// The image that was written last; at first that of the beginning.
+    image: Vec<u8>,
     steps: Vec<Step>,
 }
 
@@ -103,6 +109,7 @@ impl Builder {
             Action::Rise => self.rise(),
             Action::Damage => self.damage(),
             Action::Mislent => self.mislent(),
+            Action::Park => self.park(),
             Action::Close | Action::Next | Action::Ask | Action::Stale | Action::Bad | Action::Apart | Action::Start => {
                 let call = self.single(action);
                 self.push(call);
@@ -112,8 +119,8 @@ impl Builder {
 
     /// Adds the call and makes it on the history's own scheduler.
     fn push(&mut self, call: Call) {
-        self.steps.push(Step::Call(call));
-        if self.sound || matches!(call, Call::Start { .. }) {
+        self.steps.push(Step::Call(call.clone()));
+        if self.sound || matches!(call, Call::Start { .. } | Call::Unpark { .. }) {
             let accepted = state_call(&mut self.now, &call).is_ok();
             self.sound |= accepted;
             if let (Call::Close { slot, ticket }, true) = (call, accepted) {
@@ -183,6 +190,7 @@ impl Builder {
             Action::Bad => self.bad(),
             Action::Apart => self.apart(),
             Action::Start => Call::Start { edition: self.edition() },
+            Action::Park => Call::Park { room: self.room() },
             _ => Call::Next,
         }
     }
@@ -293,8 +301,74 @@ impl Builder {
 
     /// Any call of the shape's kind that takes a state.
     fn any_call(&mut self) -> Call {
-        let action = self.random.pick(&[Action::Open, Action::Put, Action::Close, Action::Next, Action::Ask, Action::Stale, Action::Bad]);
+        let actions = [Action::Open, Action::Put, Action::Close, Action::Next, Action::Ask, Action::Stale, Action::Bad, Action::Park];
+        let action = self.random.pick(&actions);
         self.single(action)
+    }
+
+    /// The length of a buffer for the image: just enough, one byte less or more, enough for any, or far too short.
+    fn room(&mut self) -> usize {
+        let length = image_of(&self.now).len();
+        self.random.pick(&[length, length, length - 1, length + 1, length + 64, LONGEST_IMAGE, LONGEST_IMAGE + 1, 0, 1])
+    }
+
+    /// The firmware changes: the state is parked and refuses calls, its memory is thrown away or damaged, images that are none are refused, and the image is
+    /// read. Now and then the state stays parked, until the next time.
+    fn park(&mut self) {
+        if self.now.mark == GOING {
+            let image = image_of(&self.now);
+            let room = self.room();
+            self.push(Call::Park { room });
+            if self.now.mark == GOING {
+                self.push(Call::Park { room: image.len() });
+            }
+            // Most go on with the new image, some with the one before.
+            if !self.random.chance(1, 8) {
+                self.image = image;
+            }
+        }
+        for _ in 0..self.random.below(5) {
+            let call = if self.random.chance(1, 8) { self.apart() } else { self.any_call() };
+            self.push(call);
+        }
+        if !self.random.chance(1, 8) {
+            self.unpark();
+        }
+    }
+
+    /// A byte of the memory is changed, and stays so.
+    fn change_a_byte(&mut self) {
+        let (place, flip) = (self.any_place(), 1 << self.random.below(8));
+        self.steps.push(Step::Damage { place, flip });
+        let mut bytes = layout::to_bytes(&self.now);
+        bytes[place] ^= flip;
+        match layout::sound_from_bytes(&bytes) {
+            Some(scheduler) => self.now = scheduler,
+            None => self.sound = false,
+        }
+    }
+
+    fn unpark(&mut self) {
+        if self.random.chance(1, 2) {
+            let any = self.random.below(256) as u8;
+            self.steps.push(Step::Lost { fill: self.random.pick(&[0, 1, 0xff, any]) });
+            self.sound = false;
+        } else if self.random.chance(1, 2) {
+            self.change_a_byte();
+        }
+        for _ in 0..self.random.below(4) {
+            let image = no_image(&mut self.random, &self.image);
+            self.push(Call::Unpark { image });
+            let call = self.any_call();
+            // One that is an image after all may have been read, so the call is not always refused.
+            self.push(call);
+        }
+        if self.random.chance(1, 8) {
+            let edition = self.edition();
+            self.push(Call::Start { edition });
+        }
+        let image = self.image.clone();
+        self.push(Call::Unpark { image });
     }
 
     fn damage(&mut self) {
@@ -310,7 +384,7 @@ impl Builder {
         }
         let changed = (0..layout::LENGTH).filter(|&place| damaged[place] != bytes[place]);
         let changes: Vec<Step> = changed.map(|place| Step::Damage { place, flip: damaged[place] ^ bytes[place] }).collect();
-        self.steps.extend(&changes);
+        self.steps.extend_from_slice(&changes);
         match layout::sound_from_bytes(&damaged) {
             Some(scheduler) => self.now = scheduler,
             None => {
@@ -319,7 +393,7 @@ impl Builder {
                     let call = self.any_call();
                     self.push(call);
                 }
-                self.steps.extend(&changes);
+                self.steps.extend(changes);
                 self.sound = true;
             }
         }
@@ -339,9 +413,13 @@ impl Builder {
     }
 
     fn mislent(&mut self) {
-        let call = match self.random.below(8) {
+        let call = match self.random.below(9) {
             0 => Call::Start { edition: self.edition() },
             1 => self.apart(),
+            8 => {
+                let none = no_image(&mut self.random, &self.image);
+                Call::Unpark { image: if self.random.chance(1, 2) { none } else { image_of(&self.now) } }
+            }
             _ => self.any_call(),
         };
         let right = call.answer_length();

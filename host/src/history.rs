@@ -3,26 +3,57 @@
 use std::fmt;
 
 use crate::layout;
+use crate::lent::UNWRITTEN;
 use crate::scheduler::EDITIONS;
 
-#[derive(Clone, Copy, Debug, PartialEq, Eq)]
+#[derive(Clone, Debug, PartialEq, Eq)]
 pub enum Call {
-    Start { edition: u32 },
-    Open { weight: u32 },
-    Put { slot: u32, ticket: u32, length: u32, reference: u32 },
-    Close { slot: u32, ticket: u32 },
+    Start {
+        edition: u32,
+    },
+    Open {
+        weight: u32,
+    },
+    Put {
+        slot: u32,
+        ticket: u32,
+        length: u32,
+        reference: u32,
+    },
+    Close {
+        slot: u32,
+        ticket: u32,
+    },
     Next,
-    Ask { slot: u32, ticket: u32 },
-    Lead { w1: u32, v1: u32, w2: u32, v2: u32 },
-    Term { order: u32, position: u32 },
+    Ask {
+        slot: u32,
+        ticket: u32,
+    },
+    /// With a buffer of this length.
+    Park {
+        room: usize,
+    },
+    Unpark {
+        image: Vec<u8>,
+    },
+    Lead {
+        w1: u32,
+        v1: u32,
+        w2: u32,
+        v2: u32,
+    },
+    Term {
+        order: u32,
+        position: u32,
+    },
 }
 
 impl Call {
-    /// The length of the call's answer buffer; Start has none.
+    /// The length of the call's answer buffer; Start and Unpark have none.
     pub fn answer_length(&self) -> usize {
         match self {
-            Call::Start { .. } => 0,
-            Call::Close { .. } | Call::Term { .. } => 4,
+            Call::Start { .. } | Call::Unpark { .. } => 0,
+            Call::Close { .. } | Call::Park { .. } | Call::Term { .. } => 4,
             Call::Open { .. } | Call::Put { .. } | Call::Lead { .. } => 8,
             Call::Ask { .. } => 16,
             Call::Next => 28,
@@ -32,7 +63,7 @@ impl Call {
     /// Its numbers, in the order of the C entry's parameters.
     pub fn numbers(&mut self) -> Vec<&mut u32> {
         match self {
-            Call::Next => Vec::new(),
+            Call::Next | Call::Park { .. } | Call::Unpark { .. } => Vec::new(),
             Call::Start { edition } => vec![edition],
             Call::Open { weight } => vec![weight],
             Call::Put { slot, ticket, length, reference } => vec![slot, ticket, length, reference],
@@ -47,7 +78,16 @@ impl Call {
     }
 
     pub fn takes_answer(&self) -> bool {
-        !matches!(self, Call::Start { .. })
+        !matches!(self, Call::Start { .. } | Call::Unpark { .. })
+    }
+
+    /// What is lent as the image: a buffer for Park, the bytes to be read for Unpark, nothing for the others.
+    pub fn image(&self) -> Vec<u8> {
+        match self {
+            Call::Park { room } => vec![UNWRITTEN; *room],
+            Call::Unpark { image } => image.clone(),
+            _ => Vec::new(),
+        }
     }
 }
 
@@ -61,14 +101,20 @@ impl fmt::Display for Call {
             Call::Close { slot, ticket } => write!(out, "C {slot} {ticket}"),
             Call::Next => write!(out, "N"),
             Call::Ask { slot, ticket } => write!(out, "# ask {slot} {ticket}"),
+            Call::Park { room } => write!(out, "# park with a buffer of {room} bytes"),
+            Call::Unpark { image } => write!(out, "# unpark {} bytes: {}", image.len(), hexadecimal(image)),
             Call::Lead { w1, v1, w2, v2 } => write!(out, "# lead {w1} {v1} {w2} {v2}"),
             Call::Term { order, position } => write!(out, "# term {order} {position}"),
         }
     }
 }
 
+fn hexadecimal(bytes: &[u8]) -> String {
+    bytes.iter().map(|byte| format!("{byte:02x}")).collect()
+}
+
 /// One step of a history.
-#[derive(Clone, Copy, Debug, PartialEq, Eq)]
+#[derive(Clone, Debug, PartialEq, Eq)]
 pub enum Step {
     Call(Call),
     /// The call with other lengths of state and answer.
@@ -82,9 +128,17 @@ pub enum Step {
         place: usize,
         flip: u8,
     },
+    /// No call: the memory is thrown away, and each byte of it is this one.
+    Lost {
+        fill: u8,
+    },
 }
 
 impl Step {
+    pub fn is_call(&self) -> bool {
+        matches!(self, Step::Call(_) | Step::Mislent { .. })
+    }
+
     /// The call, where it is one that the command program has.
     pub fn command(self) -> Option<Call> {
         match self {
@@ -102,6 +156,7 @@ impl fmt::Display for Step {
                 write!(out, "# with {state_length} bytes of state and {answer_length} of answer: {call}")
             }
             Step::Damage { place, flip } => write!(out, "# byte {place} of the memory is changed by exclusive or with {flip}"),
+            Step::Lost { fill } => write!(out, "# each byte of the memory becomes {fill}"),
         }
     }
 }
@@ -124,8 +179,7 @@ impl fmt::Display for History {
         }
         for (line, bytes) in self.memory.chunks(64).enumerate().filter(|_| fresh.is_none()) {
             if bytes.iter().any(|&byte| byte != 0) {
-                let hexadecimal: String = bytes.iter().map(|byte| format!("{byte:02x}")).collect();
-                writeln!(out, "# memory from byte {}: {hexadecimal}", 64 * line)?;
+                writeln!(out, "# memory from byte {}: {}", 64 * line, hexadecimal(bytes))?;
             }
         }
         for step in &self.steps {

@@ -31,8 +31,9 @@ pub const COLUMN: Field = POSITION.then("column", 1, 1);
 pub const TO_VISIT: Field = COLUMN.then("slots to visit", 1, 8);
 pub const VISIT: Field = TO_VISIT.then("visit", 1, 1);
 pub const EDITION: Field = VISIT.then("edition", 1, 1);
+pub const MARK: Field = EDITION.then("parked", 1, 1);
 /// What is left of the scan point's line.
-pub const NOTHING: Field = EDITION.then("nothing", LINE - EDITION.end() % LINE, 1);
+pub const NOTHING: Field = MARK.then("nothing", LINE - MARK.end() % LINE, 1);
 pub const LENGTHS: Field = NOTHING.then("length", CELLS, 2);
 pub const REFERENCES: Field = LENGTHS.then("reference", CELLS, 4);
 
@@ -41,7 +42,7 @@ pub const CELLS: usize = 512;
 pub const LENGTH: usize = REFERENCES.end();
 
 /// Every field, in the order of their places: together they are the whole memory.
-pub const FIELDS: [&Field; 17] = [
+pub const FIELDS: [&Field; 18] = [
     &ROWS,
     &KIND,
     &WAITING,
@@ -56,6 +57,7 @@ pub const FIELDS: [&Field; 17] = [
     &TO_VISIT,
     &VISIT,
     &EDITION,
+    &MARK,
     &NOTHING,
     &LENGTHS,
     &REFERENCES,
@@ -143,6 +145,7 @@ pub fn write(scheduler: &Scheduler, bytes: &mut [u8]) {
     TO_VISIT.write(bytes, 0, scan.to_visit.iter().fold(0, |mask, &slot| mask | 1 << (slot % SLOTS)));
     VISIT.write(bytes, 0, scan.visit.map_or(0, |slot| slot as u64 + 1));
     EDITION.write(bytes, 0, scheduler.edition);
+    MARK.write(bytes, 0, scheduler.mark);
 }
 
 fn write_channel(channel: &Channel, slot: usize, bytes: &mut [u8]) {
@@ -185,8 +188,8 @@ pub fn from_bytes(bytes: &[u8]) -> Option<Scheduler> {
         channels.push(Channel { kind, ticket, weight, deficit, next_serial, records });
     }
     let rows = line(0).get(..usize::from(line(13)[0]))?.iter().map(|&slot| usize::from(slot)).collect();
-    let (order, edition) = (u64::from(line(13)[1]), u64::from(line(13)[14]));
-    Some(Scheduler { channels, rows, order, scan: scan(line(13))?, edition })
+    let (order, edition, mark) = (u64::from(line(13)[1]), u64::from(line(13)[14]), u64::from(line(13)[15]));
+    Some(Scheduler { channels, rows, order, scan: scan(line(13))?, edition, mark })
 }
 
 /// The record in a cell of the run: a byte in each of six planes of 512.
@@ -201,7 +204,7 @@ fn record(bytes: &[u8], cell: usize) -> Option<Record> {
     Some(Record { length, reference })
 }
 
-/// The scan point in its line: position at 2 and 3, column at 4, the list at 5 to 12, the visit at 13. The edition stands behind it.
+/// The scan point in its line: position at 2 and 3, column at 4, the list at 5 to 12, the visit at 13. The edition and the mark stand behind it.
 fn scan(line: &[u8]) -> Option<Scan> {
     let position = u64::from(line[2]) + 256 * u64::from(line[3]);
     let to_visit = (0..SLOTS).filter(|slot| line[5 + slot / 8] >> (slot % 8) & 1 == 1).collect();

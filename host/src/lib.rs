@@ -2,7 +2,7 @@
 //!
 //! - [`scheduler`], [`steps`], [`sound`], [`spread`], [`answers`]: an independent scheduler, written from documents 01 and 02 over plain
 //!   structures.
-//! - [`layout`]: the lent memory, written from and read into that scheduler; [`check`]: the same question asked record by record.
+//! - [`layout`]: the lent memory, written from and read into that scheduler; [`check`]: the same question asked record by record; [`image`]: the parked image.
 //! - [`engine`], `linked` and `entries` (feature `linked`), [`model`], [`beside`], [`history`], [`lent`], [`compare`], [`shrink`]: an engine under test, or two that
 //!   must agree, is run beside the independent scheduler, call by call, and every byte is compared.
 //! - [`random`], [`states`], [`pool`], [`damage`], [`shapes`], [`generate`]: what the compared runs are fed with.
@@ -23,6 +23,7 @@ pub mod engine;
 pub mod entries;
 pub mod generate;
 pub mod history;
+pub mod image;
 pub mod layout;
 pub mod lent;
 pub mod lift;

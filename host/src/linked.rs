@@ -5,7 +5,9 @@ use std::ffi::{c_char, c_int, c_void, CStr, CString};
 use std::path::Path;
 use std::process::Command;
 
-use uplink::entries::{uplink_ask, uplink_close, uplink_lead, uplink_next, uplink_open, uplink_put, uplink_start, uplink_term};
+use uplink::entries::{
+    uplink_ask, uplink_close, uplink_lead, uplink_next, uplink_open, uplink_park, uplink_put, uplink_start, uplink_term, uplink_unpark,
+};
 
 use crate::beside::Beside;
 use crate::engine::Engine;
@@ -23,6 +25,9 @@ pub struct Entries {
     close: Close,
     next: Next,
     ask: Ask,
+    /// None in an archive from before document 02, §6.
+    park: Option<Park>,
+    unpark: Option<Unpark>,
     lead: Lead,
     term: Term,
 }
@@ -33,6 +38,8 @@ type Put = unsafe extern "C" fn(*mut u8, usize, u32, u32, u32, u32, *mut u8, usi
 type Close = unsafe extern "C" fn(*mut u8, usize, u32, u32, *mut u8, usize) -> u32;
 type Next = unsafe extern "C" fn(*mut u8, usize, *mut u8, usize) -> u32;
 type Ask = unsafe extern "C" fn(*const u8, usize, u32, u32, *mut u8, usize) -> u32;
+type Park = unsafe extern "C" fn(*mut u8, usize, *mut u8, usize, *mut u8, usize) -> u32;
+type Unpark = unsafe extern "C" fn(*mut u8, usize, *const u8, usize) -> u32;
 type Lead = unsafe extern "C" fn(u32, u32, u32, u32, *mut u8, usize) -> u32;
 type Term = unsafe extern "C" fn(u32, u32, *mut u8, usize) -> u32;
 
@@ -44,6 +51,8 @@ pub const LINKED: Entries = Entries {
     close: uplink_close,
     next: uplink_next,
     ask: uplink_ask,
+    park: Some(uplink_park),
+    unpark: Some(uplink_unpark),
     lead: uplink_lead,
     term: uplink_term,
 };
@@ -92,6 +101,8 @@ impl Entries {
                 close: as_entry::<*mut c_void, Close>(symbol(c"uplink_close")?),
                 next: as_entry::<*mut c_void, Next>(symbol(c"uplink_next")?),
                 ask: as_entry::<*mut c_void, Ask>(symbol(c"uplink_ask")?),
+                park: symbol(c"uplink_park").ok().map(|found| as_entry::<*mut c_void, Park>(found)),
+                unpark: symbol(c"uplink_unpark").ok().map(|found| as_entry::<*mut c_void, Unpark>(found)),
                 lead: as_entry::<*mut c_void, Lead>(symbol(c"uplink_lead")?),
                 term: as_entry::<*mut c_void, Term>(symbol(c"uplink_term")?),
             })
@@ -122,6 +133,16 @@ impl Engine for Entries {
 
     fn ask(&mut self, state: &mut [u8], slot: u32, ticket: u32, answer: &mut [u8]) -> u32 {
         unsafe { (self.ask)(state.as_mut_ptr(), state.len(), slot, ticket, answer.as_mut_ptr(), answer.len()) }
+    }
+
+    fn park(&mut self, state: &mut [u8], image: &mut [u8], answer: &mut [u8]) -> u32 {
+        let park = self.park.expect("the archive parks");
+        unsafe { park(state.as_mut_ptr(), state.len(), image.as_mut_ptr(), image.len(), answer.as_mut_ptr(), answer.len()) }
+    }
+
+    fn unpark(&mut self, state: &mut [u8], image: &mut [u8]) -> u32 {
+        let unpark = self.unpark.expect("the archive parks");
+        unsafe { unpark(state.as_mut_ptr(), state.len(), image.as_ptr(), image.len()) }
     }
 
     fn lead(&mut self, w1: u32, v1: u32, w2: u32, v2: u32, answer: &mut [u8]) -> u32 {

@@ -1,7 +1,7 @@
 //! The model engine: the independent scheduler behind the C entries' shape. It stands in for the exported library where that is not linked,
 //! and wrong engines are made from it to test the comparer.
 
-use crate::answers::{Fields, Refusal};
+use crate::answers::{Fields, Refusal, Written};
 use crate::engine::Engine;
 use crate::layout;
 use crate::scheduler::Scheduler;
@@ -90,6 +90,29 @@ impl Engine for Model {
 
     fn ask(&mut self, state: &mut [u8], slot: u32, ticket: u32, answer: &mut [u8]) -> u32 {
         on(state, answer, 16, |scheduler| scheduler.ask_sound(slot, ticket))
+    }
+
+    fn park(&mut self, state: &mut [u8], image: &mut [u8], answer: &mut [u8]) -> u32 {
+        let (room, mut written) = (image.len(), Vec::new());
+        let number = on(state, answer, 4, |scheduler| {
+            written = scheduler.park_sound(room)?;
+            Ok(Written { length: written.len() as u32 })
+        });
+        image[..written.len()].copy_from_slice(&written);
+        number
+    }
+
+    fn unpark(&mut self, state: &mut [u8], image: &mut [u8]) -> u32 {
+        if state.len() != layout::LENGTH {
+            return Refusal::Unsound.number();
+        }
+        match Scheduler::unpark(image) {
+            Ok(read) => {
+                layout::write(&read, state);
+                0
+            }
+            Err(refusal) => refusal.number(),
+        }
     }
 
     fn lead(&mut self, w1: u32, v1: u32, w2: u32, v2: u32, answer: &mut [u8]) -> u32 {

@@ -30,8 +30,8 @@ impl Random {
         self.below(whole) < part
     }
 
-    pub fn pick<T: Copy>(&mut self, list: &[T]) -> T {
-        list[self.below(list.len() as u64) as usize]
+    pub fn pick<T: Clone>(&mut self, list: &[T]) -> T {
+        list[self.below(list.len() as u64) as usize].clone()
     }
 
     pub fn shuffle<T>(&mut self, list: &mut [T]) {

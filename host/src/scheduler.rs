@@ -1,4 +1,4 @@
-//! An independent scheduler, written from document 01 and from §1, §3 and §4 of document 02 over plain structures: no byte layout, no code shared
+//! An independent scheduler, written from document 01 and from §1, §3, §4 and §6 of document 02 over plain structures: no byte layout, no code shared
 //! with the engine under test.
 //!
 //! The numbers are wider than the rules allow, so that a state that breaks a rule can be held too; [`Scheduler::sound`] tells them apart.
@@ -6,6 +6,7 @@
 use std::collections::{BTreeSet, VecDeque};
 
 use crate::answers::{Added, Closed, Opened, Refusal, Sent, Standing, Told};
+use crate::image;
 use crate::steps::{Moment, Tell};
 
 pub const SLOTS: usize = 64;
@@ -25,6 +26,9 @@ pub const GRANT: u64 = 1_024;
 pub const SERIALS: u64 = 65_536;
 /// The rules that a state can be started with: 1 is "today's rule", 2 holds the order for the round.
 pub const EDITIONS: [u64; 2] = [1, 2];
+/// The mark of a state that goes on, and of one that is parked.
+pub const GOING: u64 = 0;
+pub const PARKED: u64 = 1;
 
 #[derive(Clone, Copy, Debug, PartialEq, Eq)]
 pub enum Kind {
@@ -83,6 +87,8 @@ pub struct Scheduler {
     pub scan: Scan,
     /// "Start takes and keeps the edition"
     pub edition: u64,
+    /// "After writing, the state is parked": 1, else 0.
+    pub mark: u64,
 }
 
 impl Channel {
@@ -120,6 +126,7 @@ impl Scheduler {
             order: 0,
             scan: Scan { position: 0, column: 0, to_visit: BTreeSet::new(), visit: None },
             edition,
+            mark: GOING,
         }
     }
 
@@ -149,6 +156,11 @@ impl Scheduler {
         self.ask_sound(slot, ticket)
     }
 
+    pub fn park(&mut self, room: usize) -> Result<Vec<u8>, Refusal> {
+        self.check()?;
+        self.park_sound(room)
+    }
+
     fn check(&self) -> Result<(), Refusal> {
         if self.sound() {
             Ok(())
@@ -157,7 +169,17 @@ impl Scheduler {
         }
     }
 
+    /// "the state is parked and takes only start and the reader": "14 parked, after 10 in every other call".
+    pub fn going(&self) -> Result<(), Refusal> {
+        if self.mark == GOING {
+            Ok(())
+        } else {
+            Err(Refusal::Parked)
+        }
+    }
+
     pub fn open_sound(&mut self, weight: u32) -> Result<Opened, Refusal> {
+        self.going()?;
         let weight = u64::from(weight);
         if weight == 0 || weight > LARGEST_WEIGHT {
             return Err(Refusal::BadWeight);
@@ -174,6 +196,7 @@ impl Scheduler {
     }
 
     pub fn put_sound(&mut self, slot: u32, ticket: u32, length: u32, reference: u32) -> Result<Added, Refusal> {
+        self.going()?;
         let slot = self.look_up(slot, ticket)?;
         let channel = &self.channels[slot];
         if channel.kind == Kind::Closing {
@@ -205,6 +228,7 @@ impl Scheduler {
     }
 
     pub fn close_sound(&mut self, slot: u32, ticket: u32) -> Result<Closed, Refusal> {
+        self.going()?;
         let slot = self.look_up(slot, ticket)?;
         let channel = &mut self.channels[slot];
         if channel.kind == Kind::Closing {
@@ -225,6 +249,7 @@ impl Scheduler {
 
     /// Next, moment by moment: each is told with the state right after it.
     pub fn next_by_moments(&mut self, tell: Tell) -> Result<Sent, Refusal> {
+        self.going()?;
         if self.rows.is_empty() {
             return Err(Refusal::NoneWaits);
         }
@@ -241,6 +266,7 @@ impl Scheduler {
     }
 
     pub fn ask_sound(&self, slot: u32, ticket: u32) -> Result<Told, Refusal> {
+        self.going()?;
         let channel = &self.channels[self.look_up(slot, ticket)?];
         Ok(Told {
             standing: if channel.kind == Kind::Closing { Standing::Closing } else { Standing::Open },
@@ -248,6 +274,22 @@ impl Scheduler {
             deficit: channel.deficit as u32,
             waiting: channel.records.len() as u32,
         })
+    }
+
+    /// The writer, for a buffer of this length: the image, which the buffer begins with afterwards. "After writing, the state is parked"; a refusal parks nothing.
+    pub fn park_sound(&mut self, room: usize) -> Result<Vec<u8>, Refusal> {
+        self.going()?;
+        let image = image::image_of(self);
+        if room < image.len() {
+            return Err(Refusal::ShortBuffer);
+        }
+        self.mark = PARKED;
+        Ok(image)
+    }
+
+    /// The reader: the state of an image, whatever was before. "15 for an image that isn't exactly one sound state's"; the 10 is for the memory's length.
+    pub fn unpark(image: &[u8]) -> Result<Scheduler, Refusal> {
+        image::read(image).ok_or(Refusal::BadImage)
     }
 
     /// "their use is the sum, over all channels, of records waiting beyond two": counted over all channels at once, as all records that wait, less each first

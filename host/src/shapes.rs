@@ -27,6 +27,8 @@ pub enum Action {
     Damage,
     /// A call with other lengths of state or answer.
     Mislent,
+    /// Park, calls on the parked state, the memory thrown away or changed, images damaged and whole.
+    Park,
     Start,
 }
 
@@ -53,6 +55,10 @@ fn fresh(_: &mut Random, edition: u64) -> Scheduler {
 fn any_state(random: &mut Random, edition: u64) -> Scheduler {
     let most = random.pick(&[2, 5, 20, 64]);
     states::any_sound(random, edition, most)
+}
+
+fn any_parked(random: &mut Random, edition: u64) -> Scheduler {
+    states::parked(any_state(random, edition))
 }
 
 fn unreached(random: &mut Random, edition: u64) -> Scheduler {
@@ -153,6 +159,16 @@ const HARM: &[(Action, u64)] = &[(Action::Open, 6), (Action::Put, 20), (Action::
 /// The same where the cells stay taken.
 const HARM_FULL: &[(Action, u64)] = &[(Action::Open, 2), (Action::Put, 20), (Action::Close, 1), (Action::Next, 4), (Action::Damage, 30)];
 const LENGTHS: &[(Action, u64)] = &[(Action::Open, 6), (Action::Put, 20), (Action::Close, 3), (Action::Next, 20), (Action::Mislent, 40)];
+/// Queues are parked and read again, filled or nearly empty.
+const PARKS: &[(Action, u64)] = &[
+    (Action::Open, 6),
+    (Action::Put, 40),
+    (Action::Close, 3),
+    (Action::Next, 40),
+    (Action::Replug, 2),
+    (Action::Stale, 2),
+    (Action::Park, 8),
+];
 const ALL: &[(Action, u64)] = &[
     (Action::Open, 10),
     (Action::Put, 40),
@@ -165,6 +181,7 @@ const ALL: &[(Action, u64)] = &[
     (Action::Apart, 3),
     (Action::Damage, 2),
     (Action::Mislent, 3),
+    (Action::Park, 2),
     (Action::Start, 1),
 ];
 
@@ -208,5 +225,10 @@ pub const SHAPES: &[Shape] = &[
     shape("any sound state", any_state, 24, 16, MIXED),
     shape("damage", any_state, 12, 8, HARM),
     shape("other lengths", fresh, 6, 8, LENGTHS),
+    // Parked queues (document 02, §6).
+    Shape { length: short, ..shape("parked queues", fresh, 12, 6, PARKS) },
+    shape("parked from the beginning", any_parked, 24, 16, PARKS),
+    shape("parked at the limits", pool::any_at_limit, 24, 64, PARKS),
+    shape("parked near the last ticket", states::near_last_ticket, 4, 4, PARKS),
     Shape { length: short, ..shape("everything", fresh, 16, 6, ALL) },
 ];

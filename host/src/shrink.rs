@@ -7,6 +7,7 @@ use std::collections::HashMap;
 use crate::compare::{run, state_call, Difference};
 use crate::engine::Engine;
 use crate::history::{Call, History, Step};
+use crate::image::{image_of, read, LONGEST_IMAGE};
 use crate::layout::{self, EDITION};
 use crate::model::Model;
 use crate::scheduler::{Channel, Scheduler, LONGEST, SLOTS};
@@ -139,8 +140,8 @@ impl<E: Engine + ?Sized> Search<'_, E> {
 
     fn make_plainer(&mut self) {
         for at in 0..self.best.steps.len() {
-            let Some(&Step::Call(call)) = self.best.steps.get(at) else { continue };
-            plainer(call).into_iter().any(|call| {
+            let Some(Step::Call(call)) = self.best.steps.get(at) else { continue };
+            plainer(call.clone()).into_iter().any(|call| {
                 let mut candidate = self.best.clone();
                 candidate.steps[at] = Step::Call(call);
                 self.keep_if_it_differs(candidate)
@@ -155,9 +156,10 @@ fn memory_after(memory: &[u8], steps: &[Step]) -> Vec<u8> {
     for step in steps {
         match step {
             Step::Call(call) => {
-                Model.call(call, &mut memory, &mut vec![0; call.answer_length()]);
+                Model.call(call, &mut memory, &mut call.image(), &mut vec![0; call.answer_length()]);
             }
             Step::Damage { place, flip } => memory[*place] ^= flip,
+            Step::Lost { fill } => memory.fill(*fill),
             Step::Mislent { .. } => {}
         }
     }
@@ -172,11 +174,25 @@ fn plainer(call: Call) -> Vec<Call> {
             let put = |slot, length, reference| Call::Put { slot, ticket, length, reference };
             let long = LONGEST as u32;
             let plain = [put(0, long, 1), put(slot, long, 1), put(slot, length, 1), put(slot, long, reference)];
-            plain.into_iter().take_while(|&plain| plain != call).collect()
+            plain.into_iter().take_while(|plain| *plain != call).collect()
+        }
+        Call::Park { room } if room > LONGEST_IMAGE => vec![Call::Park { room: LONGEST_IMAGE }],
+        Call::Unpark { ref image } => {
+            plainer_images(image).into_iter().map(|image| Call::Unpark { image }).take_while(|plain| *plain != call).collect()
         }
         Call::Close { slot, ticket } | Call::Ask { slot, ticket } if slot > 0 => vec![moved(call, (0, ticket))],
         _ => Vec::new(),
     }
+}
+
+/// Images of fresh states, and of one channel alone.
+fn plainer_images(image: &[u8]) -> Vec<Vec<u8>> {
+    let mut images = vec![image_of(&Scheduler::fresh(1)), image_of(&Scheduler::fresh(2))];
+    if let Some(state) = read(image) {
+        let others = |kept: usize| (0..SLOTS).filter(move |&slot| slot != kept);
+        images.extend((0..SLOTS).map(|kept| image_of(&others(kept).fold(state.clone(), without_channel))));
+    }
+    images
 }
 
 /// The sound state with this slot fresh.
@@ -201,20 +217,20 @@ fn without_opening(history: &History, at: usize) -> History {
     let (mut old, mut new) = (begin.clone(), begin);
     // Slot and ticket in the old history, and what they are in the new one.
     let mut now: HashMap<(u32, u32), Option<(u32, u32)>> = HashMap::new();
-    for (number, &step) in history.steps.iter().enumerate() {
+    for (number, step) in history.steps.iter().enumerate() {
         let Step::Call(call) = step else {
-            steps.push(step);
+            steps.push(step.clone());
             continue;
         };
-        let kept = match call {
+        let kept = match *call {
             Call::Open { .. } if number == at => None,
             Call::Put { slot, ticket, .. } | Call::Close { slot, ticket } | Call::Ask { slot, ticket } => {
-                now.get(&(slot, ticket)).copied().unwrap_or(Some((slot, ticket))).map(|place| moved(call, place))
+                now.get(&(slot, ticket)).copied().unwrap_or(Some((slot, ticket))).map(|place| moved(call.clone(), place))
             }
-            _ => Some(call),
+            _ => Some(call.clone()),
         };
-        let opened = state_call(&mut old, &call);
-        let opened_now = kept.map(|call| state_call(&mut new, &call));
+        let opened = state_call(&mut old, call);
+        let opened_now = kept.as_ref().map(|call| state_call(&mut new, call));
         if let (Call::Open { .. }, Ok(place)) = (call, opened) {
             let place_now = opened_now.and_then(Result::ok).map(|place| (place[0], place[1]));
             now.insert((place[0], place[1]), place_now);

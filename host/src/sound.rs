@@ -1,15 +1,16 @@
-//! When a state is sound: document 01's list, one rule after the other, over the plain structure, and what document 02 says of editions (§3)
-//! and of the shared cells (§4).
+//! When a state is sound: document 01's list, one rule after the other, over the plain structure, and what document 02 says of editions (§3),
+//! of the shared cells (§4) and of the mark of a parked state (§6).
 //! Its last rule ("bytes that stand for nothing are 0") is about bytes and stands in [`crate::layout`].
 
 use crate::scheduler::{
-    Channel, Kind, Record, Scheduler, COLUMNS, EDITIONS, LARGEST_WEIGHT, LAST_TICKET, LONGEST, MOST_WAITING, SERIALS, SHARED, SLOTS,
+    Channel, Kind, Record, Scheduler, COLUMNS, EDITIONS, GOING, LARGEST_WEIGHT, LAST_TICKET, LONGEST, MOST_WAITING, PARKED, SERIALS,
+    SHARED, SLOTS,
 };
 
 pub const LARGEST_DEFICIT: u64 = 1_023;
 pub const LARGEST_IN_VISIT: u64 = 2_046;
 
-/// The rules of the list, in its order, with that of the shared cells beside the room's, and the edition's.
+/// The rules of the list, in its order, with that of the shared cells beside the room's, the edition's and the mark's.
 #[derive(Clone, Copy, Debug, PartialEq, Eq)]
 pub enum Rule {
     Free,
@@ -22,6 +23,7 @@ pub enum Rule {
     Visit,
     Deficit,
     Edition,
+    Mark,
 }
 
 impl Scheduler {
@@ -43,6 +45,7 @@ impl Scheduler {
             (Rule::Visit, self.visit_is_of_a_row()),
             (Rule::Deficit, self.deficits_are_in_range()),
             (Rule::Edition, EDITIONS.contains(&self.edition)),
+            (Rule::Mark, [GOING, PARKED].contains(&self.mark)),
         ];
         rules.into_iter().filter(|(_, kept)| !kept).map(|(rule, _)| rule).collect()
     }

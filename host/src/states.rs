@@ -1,9 +1,9 @@
 //! Sound states built directly: any sound state at random, serials and tickets near their ends, and states that no history reaches but that
-//! must be served all the same. Each is of an edition.
+//! must be served all the same. Each is of an edition, and not parked but where it says so.
 
 use crate::pool;
 use crate::random::Random;
-use crate::scheduler::{Channel, Kind, Record, Scheduler, COLUMNS, FRAMING, GRANT, KEPT, LAST_TICKET, LONGEST, SHARED, SLOTS};
+use crate::scheduler::{Channel, Kind, Record, Scheduler, COLUMNS, FRAMING, GRANT, KEPT, LAST_TICKET, LONGEST, PARKED, SHARED, SLOTS};
 use crate::sound::LARGEST_IN_VISIT;
 
 /// A channel with records of these lengths.
@@ -61,9 +61,14 @@ pub fn crowd(order: u64, position: u64) -> Scheduler {
     scheduler
 }
 
+/// The state, parked.
+pub fn parked(scheduler: Scheduler) -> Scheduler {
+    Scheduler { mark: PARKED, ..scheduler }
+}
+
 /// Sound states that no history reaches, or that take very long to reach, by name.
 pub fn unreached(edition: u64) -> Vec<(&'static str, Scheduler)> {
-    let mut states = vec![("rich", rich(edition))];
+    let mut states = vec![("rich", rich(edition)), ("rich, parked", parked(rich(edition))), ("full, parked", parked(pool::full(edition)))];
     states.extend(pool::at_the_limit(edition));
     if edition == 2 {
         states.extend(held());

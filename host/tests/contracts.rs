@@ -6,17 +6,30 @@ mod rattle;
 use rattle::{functions, source, Function};
 
 /// Where the public calls stand, and which they are.
-const CALLS: [(&str, &[&str]); 8] = [
+const CALLS: [(&str, &[&str]); 10] = [
     ("uplink/src/open.rt", &["start", "open"]),
     ("uplink/src/put.rt", &["put"]),
     ("uplink/src/close.rt", &["close"]),
     ("uplink/src/next.rt", &["next"]),
     ("uplink/src/ask.rt", &["ask"]),
     ("spread/src/lib.rt", &["term", "lead"]),
+    ("image/src/writer.rt", &["park"]),
+    ("image/src/reader.rt", &["unpark"]),
     ("support/src/lib.rt", &["plain_put", "plain_next"]),
     (
         "driver/src/lib.rt",
-        &["uplink_start", "uplink_open", "uplink_put", "uplink_close", "uplink_next", "uplink_ask", "uplink_term", "uplink_lead"],
+        &[
+            "uplink_start",
+            "uplink_open",
+            "uplink_put",
+            "uplink_close",
+            "uplink_next",
+            "uplink_ask",
+            "uplink_park",
+            "uplink_unpark",
+            "uplink_term",
+            "uplink_lead",
+        ],
     ),
 ];
 
@@ -49,7 +62,7 @@ fn no_public_call_has_a_requires() {
 /// An entry that this list does not have would be a public call that nobody looks at.
 #[test]
 fn every_exported_entry_is_listed() {
-    for (file, calls) in &CALLS[6..] {
+    for (file, calls) in &CALLS[8..] {
         let exported: Vec<String> = functions(&source(file)).into_iter().filter(|f| f.exported).map(|f| f.name).collect();
         assert_eq!(exported, *calls);
     }

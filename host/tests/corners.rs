@@ -1,6 +1,7 @@
 //! The generated histories meet the corners where schedulers go wrong, each of them many times.
 
 mod limits;
+mod parks;
 
 use std::collections::BTreeMap;
 
@@ -11,6 +12,7 @@ use host::layout;
 use host::scheduler::{cost_of, Kind, Scheduler, GRANT, LAST_TICKET, LONGEST, MOST_WAITING, SHARED};
 use host::steps::Moment;
 use limits::{look_at_cells_left, look_at_cells_taken, look_at_damage, look_at_limits};
+use parks::look_at_parking;
 
 type Count = BTreeMap<&'static str, u32>;
 
@@ -87,15 +89,19 @@ const CORNERS: [&str; 65] = [
 
 #[test]
 fn histories_meet_every_corner() {
-    let mut count: Count = CORNERS.into_iter().map(|corner| (corner, 0)).collect();
+    let mut count: Count = CORNERS.into_iter().chain(parks::CORNERS).map(|corner| (corner, 0)).collect();
     let mut numbers = BTreeMap::new();
-    for seed in 0..1_500 {
+    for seed in 0..2_000 {
         let history = history(seed);
-        let mut now = layout::sound_from_bytes(&history.memory).unwrap();
+        let (mut now, mut changed) = (layout::sound_from_bytes(&history.memory).unwrap(), false);
         for step in &history.steps {
             match step {
-                // The rest of a history with damage is left out.
-                Step::Damage { .. } => break,
+                // What follows a change of the memory is left out, up to a start or a reading.
+                Step::Damage { .. } | Step::Lost { .. } => changed = true,
+                Step::Call(call) if changed => {
+                    let mends = matches!(call, Call::Start { .. } | Call::Unpark { .. });
+                    changed = !(mends && state_call(&mut now, call).is_ok());
+                }
                 Step::Call(call) => {
                     let before = now.clone();
                     let result = state_call(&mut now, call);
@@ -112,8 +118,11 @@ fn histories_meet_every_corner() {
         assert!(times >= 20, "{corner}: {times}");
     }
     let (start, open, put) = (("start", &[0, 12][..]), ("open", &[0, 6, 7][..]), ("put", &[0, 1, 2, 3, 4, 5, 13][..]));
-    for (call, list) in [start, open, put, ("close", &[0, 1, 2, 3]), ("next", &[0, 8]), ("ask", &[0, 1, 2])] {
-        for &number in list {
+    let (park, unpark) = (("park", &[0, 14, 16][..]), ("unpark", &[0, 15][..]));
+    for (call, list) in [start, open, put, ("close", &[0, 1, 2, 3]), ("next", &[0, 8]), ("ask", &[0, 1, 2]), park, unpark] {
+        // A parked state refuses every call but Start and the reader.
+        let parked = (!["start", "unpark"].contains(&call)).then_some(&14);
+        for &number in list.iter().chain(parked) {
             assert!(numbers.get(&(call, number)).is_some_and(|&times| times >= 20), "{call} with number {number}");
         }
     }
@@ -133,7 +142,7 @@ const DAMAGED: [&str; 6] = [
 #[test]
 fn damage_meets_the_limits() {
     let mut count: Count = DAMAGED.into_iter().map(|corner| (corner, 0)).collect();
-    for seed in 0..1_500 {
+    for seed in 0..2_000 {
         look_at_damage(history(seed), &mut |corner, holds| *count.get_mut(corner).expect("a corner of the list") += u32::from(holds));
     }
     println!("{count:#?}");
@@ -150,12 +159,15 @@ fn name(call: &Call) -> &'static str {
         Call::Close { .. } => "close",
         Call::Next => "next",
         Call::Ask { .. } => "ask",
+        Call::Park { .. } => "park",
+        Call::Unpark { .. } => "unpark",
         _ => "apart",
     }
 }
 
 fn look(before: &Scheduler, after: &Scheduler, call: &Call, result: &Result<Vec<u32>, u32>, count: &mut Count) {
     let mut met = |corner: &'static str, holds: bool| *count.get_mut(corner).expect("a corner of the list") += u32::from(holds);
+    look_at_parking(before, after, call, *result.as_ref().err().unwrap_or(&0), &mut met);
     match (call, result) {
         (Call::Put { slot, length, .. }, Ok(fields)) => {
             met("a length of 1,014 is taken", *length == 1_014);

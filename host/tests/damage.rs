@@ -6,14 +6,15 @@ use host::check::record_by_record;
 use host::compare::run_all;
 use host::damage::{breakages, wrong_bytes};
 use host::history::{Call, History, Step};
+use host::image::{image_of, LONGEST_IMAGE};
 use host::layout::{is_sound_memory, to_bytes, EDITION, KIND, LENGTH, LENGTHS, ROW_COUNT, TICKET};
 use host::pool;
 use host::random::Random;
 use host::scheduler::{Scheduler, EDITIONS};
 use host::states;
 
-/// Each call that takes a state but Start, with numbers that rich() accepts, then with numbers that some rule refuses.
-const CALLS: [Call; 10] = [
+/// Each call that takes a state but Start and the reader, with numbers that rich() accepts, then with numbers that some rule refuses.
+static CALLS: [Call; 12] = [
     Call::Next,
     Call::Open { weight: 9 },
     Call::Put { slot: 1, ticket: 1, length: 1_014, reference: 0xffff_fffe },
@@ -24,10 +25,13 @@ const CALLS: [Call; 10] = [
     Call::Put { slot: 64, ticket: 1, length: 0, reference: 0 },
     Call::Close { slot: 5, ticket: 1 },
     Call::Ask { slot: u32::MAX, ticket: 0 },
+    // All others would be refused after it.
+    Call::Park { room: LONGEST_IMAGE },
+    Call::Park { room: 0 },
 ];
 
 fn history(shape: &'static str, seed: u64, memory: Vec<u8>, calls: &[Call]) -> History {
-    History { seed, shape, memory, steps: calls.iter().map(|&call| Step::Call(call)).collect() }
+    History { seed, shape, memory, steps: calls.iter().cloned().map(Step::Call).collect() }
 }
 
 fn compare(histories: impl IntoIterator<Item = History>) -> u64 {
@@ -62,12 +66,22 @@ fn unreached_states_are_served() {
         assert_eq!(scheduler.broken(), [], "{name}");
         let memory = to_bytes(&scheduler);
         assert!(is_sound_memory(&memory) && record_by_record(&memory), "{name}");
-        for call in CALLS {
-            histories.push(history(name, 0, memory.clone(), &[call]));
+        for call in &CALLS {
+            histories.push(history(name, 0, memory.clone(), std::slice::from_ref(call)));
         }
-        histories.push(history(name, 0, memory, &[Call::Next; 2_000]));
+        histories.push(history(name, 0, memory, &vec![Call::Next; 2_000]));
     }
     compare(histories);
+}
+
+/// The reader looks at the length and the image alone.
+#[test]
+fn unpark_mends_any_memory() {
+    let damaged = breakages().into_iter().map(|breakage| (breakage.name, to_bytes(&breakage.scheduler)));
+    let image = image_of(&states::rich(2));
+    let [none, some] = [image[1..].to_vec(), image].map(|image| Call::Unpark { image });
+    let calls = [Call::Next, none, Call::Next, some, Call::Next, Call::Ask { slot: 3, ticket: 9 }];
+    compare(damaged.chain(wrong_bytes()).map(|(name, memory)| history(name, 0, memory, &calls)));
 }
 
 /// Start looks at the length and the edition alone.
@@ -75,8 +89,18 @@ fn unreached_states_are_served() {
 fn start_mends_any_memory() {
     let damaged = breakages().into_iter().map(|breakage| (breakage.name, to_bytes(&breakage.scheduler)));
     let [first, second, none] = [1, 2, 3].map(|edition| Call::Start { edition });
-    let calls =
-        [Call::Next, none, Call::Next, first, Call::Open { weight: 1 }, none, Call::Next, second, Call::Open { weight: 2 }, Call::Next];
+    let calls = [
+        Call::Next,
+        none.clone(),
+        Call::Next,
+        first,
+        Call::Open { weight: 1 },
+        none,
+        Call::Next,
+        second,
+        Call::Open { weight: 2 },
+        Call::Next,
+    ];
     compare(damaged.chain(wrong_bytes()).map(|(name, memory)| history(name, 0, memory, &calls)));
 }
 

@@ -11,7 +11,8 @@ use std::path::Path;
 use host::answers::Refusal;
 use host::engine::Engine;
 use host::history::Call;
-use host::layout::fresh;
+use host::layout::{fresh, to_bytes, LENGTH};
+use host::pool::full;
 use rattle::{functions, source, without_comments};
 
 type Numbers = BTreeMap<String, u64>;
@@ -150,7 +151,8 @@ fn limits() -> Numbers {
 
 /// The lengths, of those up to 64 bytes, of the answer buffers that the engine under test takes for a call.
 fn taken(call: Call) -> Vec<u64> {
-    let takes = |length: &usize| common::engine().call(&call, &mut fresh(1), &mut vec![0; *length]) != Refusal::Unsound.number();
+    let takes =
+        |length: &usize| common::engine().call(&call, &mut fresh(1), &mut call.image(), &mut vec![0; *length]) != Refusal::Unsound.number();
     (0..=64).filter(takes).map(|length| length as u64).collect()
 }
 
@@ -159,6 +161,13 @@ fn state_length() -> u64 {
     let taken: Vec<usize> = (0..10_000).filter(|&length| common::engine().start(&mut vec![1; length], 1) == 0).collect();
     assert_eq!(taken.len(), 1);
     taken[0] as u64
+}
+
+/// The length of the image where every cell is taken.
+fn image_length() -> u64 {
+    let mut answer = [0; 4];
+    assert_eq!(common::engine().park(&mut to_bytes(&full(1)), &mut [0; LENGTH], &mut answer), 0);
+    u64::from(u32::from_le_bytes(answer))
 }
 
 /// major * 10000 + minor * 100 + patch of the wrapper's crate.
@@ -176,6 +185,7 @@ fn macros_have_the_numbers_of_code_and_specs() {
         ("CLOSE", Call::Close { slot: 0, ticket: 1 }),
         ("NEXT", Call::Next),
         ("ASK", Call::Ask { slot: 0, ticket: 1 }),
+        ("PARK", Call::Park { room: LENGTH }),
         ("LEAD", Call::Lead { w1: 1, v1: 1, w2: 1, v2: 1 }),
         ("TERM", Call::Term { order: 1, position: 1 }),
     ];
@@ -186,6 +196,7 @@ fn macros_have_the_numbers_of_code_and_specs() {
         expected.insert(format!("{name}_LENGTH"), lengths[0]);
     }
     expected.insert("STATE_LENGTH".to_string(), state_length());
+    expected.insert("IMAGE_LENGTH".to_string(), image_length());
     expected.insert("VERSION".to_string(), version());
     let declared = macros(&header());
     for (name, number) in &declared {

@@ -1,7 +1,9 @@
 //! The lent memory: where each byte stands, writer against reader, and the two checks against each other.
 
 use host::check::record_by_record;
-use host::layout::{fresh, from_bytes, is_sound_memory, name_of, to_bytes, CELLS, EDITION, LENGTH, LENGTHS, TICKET, TO_VISIT};
+use host::layout::{
+    fresh, from_bytes, is_sound_memory, name_of, to_bytes, CELLS, EDITION, LENGTH, LENGTHS, MARK, NOTHING, TICKET, TO_VISIT,
+};
 use host::pool;
 use host::random::Random;
 use host::scheduler::{Scheduler, EDITIONS, KEPT, SHARED, SLOTS};
@@ -19,6 +21,21 @@ fn the_fresh_state_is_all_zeros_beside_the_edition() {
         assert!(!is_sound_memory(&[&zeros[..], &[0]].concat()));
     }
     assert!(!is_sound_memory(&[]));
+}
+
+/// The mark stands behind the edition: 0 or 1, and another value is unsound.
+#[test]
+fn the_mark_is_0_or_1() {
+    assert_eq!((MARK.places(), NOTHING.places()), (847..848, 848..896));
+    for state in [Scheduler::fresh(1), states::rich(2), pool::full(1)] {
+        for mark in 0..=255 {
+            let bytes = to_bytes(&Scheduler { mark: u64::from(mark), ..state.clone() });
+            assert_eq!(bytes[847], mark);
+            assert_eq!(from_bytes(&bytes).map(|read| read.mark), Some(u64::from(mark)));
+            assert_eq!(is_sound_memory(&bytes), mark <= 1, "{mark}");
+            assert_eq!(record_by_record(&bytes), is_sound_memory(&bytes), "{mark}");
+        }
+    }
 }
 
 /// "Hold all records in 512 shared cells ... Two are kept for every slot and 384 shared"
@@ -82,8 +99,8 @@ fn slots_to_visit_are_bits_of_one_number() {
 fn each_byte_has_a_name() {
     assert_eq!(name_of(0), "rows, lane 0, byte 0");
     assert_eq!(name_of(192 + 64 + 3), "ticket, lane 3, byte 1");
-    assert_eq!((name_of(846), name_of(847)), ("edition, lane 0, byte 0".to_string(), "nothing, lane 0, byte 0".to_string()));
-    assert_eq!(name_of(895), "nothing, lane 48, byte 0");
+    assert_eq!((name_of(846), name_of(847)), ("edition, lane 0, byte 0".to_string(), "parked, lane 0, byte 0".to_string()));
+    assert_eq!((name_of(848), name_of(895)), ("nothing, lane 0, byte 0".to_string(), "nothing, lane 47, byte 0".to_string()));
     assert_eq!(name_of(LENGTH - 1), "reference, lane 511, byte 3");
     assert!((0..LENGTH).all(|place| name_of(place) != name_of(LENGTH)));
 }

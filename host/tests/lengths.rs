@@ -5,7 +5,8 @@ mod common;
 use host::compare::run_all;
 use host::damage::breakages;
 use host::history::{Call, History, Step};
-use host::layout::{to_bytes, LENGTH, LENGTHS};
+use host::image::{image_of, LONGEST_IMAGE};
+use host::layout::{self, to_bytes, LENGTH, LENGTHS};
 use host::pool;
 use host::scheduler::EDITIONS;
 use host::states;
@@ -28,21 +29,28 @@ const CALLS: [Call; 14] = [
     Call::Term { order: 0, position: 4 },
 ];
 
+/// Those of parked queues: buffers of just the length, longer and too short, an image and none.
+fn of_parking(memory: &[u8]) -> Vec<Call> {
+    let image = layout::sound_from_bytes(memory).map_or(vec![1; LONGEST_IMAGE], |state| image_of(&state));
+    let rooms = [0, image.len() - 1, image.len(), LENGTH].map(|room| Call::Park { room });
+    let images = [Vec::new(), image[..image.len() - 1].to_vec(), image].map(|image| Call::Unpark { image });
+    rooms.into_iter().chain(images).collect()
+}
+
 /// 7,040 bytes have cells for 16 records in each of 64 channels.
 const STATE_LENGTHS: [usize; 15] =
     [0, 1, 28, 63, 64, LENGTHS.start, LENGTH / 2, LENGTH - 2, LENGTH - 1, LENGTH, LENGTH + 1, LENGTH + 64, 4_096, 7_040, 2 * LENGTH];
 
 fn compare(memory: Vec<u8>) -> u64 {
     let mut steps = Vec::new();
-    for call in CALLS {
+    for call in CALLS.into_iter().chain(of_parking(&memory)) {
         for state_length in STATE_LENGTHS {
             for answer_length in (0..=64).chain([LENGTH]) {
-                let mislent = Step::Mislent { call, state_length, answer_length };
-                let start_accepted = matches!(call, Call::Start { edition: 1 | 2 }) && state_length == LENGTH;
+                let start_accepted = matches!(call, Call::Start { edition: 1 | 2 } | Call::Unpark { .. }) && state_length == LENGTH;
                 let accepted = state_length == LENGTH && answer_length == call.answer_length();
                 // Accepted calls would change the memory for the rest; they are compared elsewhere.
                 if !start_accepted && !accepted {
-                    steps.push(mislent);
+                    steps.push(Step::Mislent { call: call.clone(), state_length, answer_length });
                 }
             }
         }
@@ -57,6 +65,7 @@ fn compare(memory: Vec<u8>) -> u64 {
 #[test]
 fn of_a_sound_state() {
     for edition in EDITIONS {
+        assert!(compare(to_bytes(&states::parked(states::rich(edition)))) > 10_000);
         assert!(compare(to_bytes(&states::rich(edition))) > 10_000);
         assert!(compare(to_bytes(&pool::full(edition))) > 10_000);
     }

@@ -158,6 +158,36 @@ fn any_bytes_and_numbers() {
     }
 }
 
+/// Document 02, §6: a parked memory takes nothing but a start and an image, and goes on where it was.
+#[test]
+fn queues_are_parked() {
+    let mut memory = Memory::new(Edition::Two);
+    memory.open(5).unwrap();
+    memory.put(0, 1, 600, 77).unwrap();
+    let before = memory.clone();
+    let mut image = [0xa5; Memory::IMAGE_LENGTH];
+    assert_eq!(memory.park(&mut image[..794]), Err(Refusal::ShortBuffer));
+    assert_eq!((memory == before, image), (true, [0xa5; Memory::IMAGE_LENGTH]));
+    // 20 bytes ahead of the rows, one row, 64 entries of 12 bytes, one record.
+    assert_eq!(memory.park(&mut image), Ok(795));
+    assert!(memory.is_parked() && memory.is_sound() && !before.is_parked());
+    assert!(image[795..].iter().all(|&byte| byte == 0xa5));
+    assert_eq!(memory.next(), Err(Refusal::Parked));
+    assert_eq!(memory.park(&mut image), Err(Refusal::Parked));
+    for none in [&image[..794], &image[..796], &[]] {
+        assert_eq!(memory.unpark(none), Err(Refusal::BadImage));
+    }
+    let mut lost = Memory::from_bytes([0xff; LENGTH]);
+    assert!(!lost.is_sound() && !lost.is_parked());
+    for memory in [&mut memory, &mut lost] {
+        assert_eq!(memory.unpark(&image[..795]), Ok(()));
+        assert!(*memory == before && !memory.is_parked());
+    }
+    memory.park(&mut image).unwrap();
+    memory.start(Edition::One);
+    assert_eq!(memory.bytes()[..], fresh(1));
+}
+
 /// Ask takes a memory that is only lent to be read.
 #[test]
 fn ask_reads_alone() {
@@ -173,7 +203,7 @@ fn a_refusal_is_an_error_with_a_text_of_its_own() {
     let texts: Vec<String> = Refusal::ALL.iter().map(|refusal| (refusal as &dyn Error).to_string()).collect();
     assert!(texts.iter().enumerate().all(|(place, text)| !text.is_empty() && !texts[..place].contains(text)), "{texts:?}");
     for number in 0..20 {
-        assert_eq!(Refusal::from_number(number).map(Refusal::number), (1..=13).contains(&number).then_some(number));
+        assert_eq!(Refusal::from_number(number).map(Refusal::number), (1..=16).contains(&number).then_some(number));
     }
 }
 

@@ -20,6 +20,9 @@ refusalOf answer.unsound = refusal.Unsound
 refusalOf answer.noTerm = refusal.NoTerm
 refusalOf answer.badEdition = refusal.BadEdition
 refusalOf answer.noShared = refusal.NoShared
+refusalOf answer.parked = refusal.Parked
+refusalOf answer.badImage = refusal.BadImage
+refusalOf answer.shortBuffer = refusal.ShortBuffer
 
 back : (r : Refusal) → refusalOf (refusalTold r) ≡ r
 unfolding refusalOf
@@ -36,6 +39,9 @@ back refusal.Unsound = refl
 back refusal.NoTerm = refl
 back refusal.BadEdition = refl
 back refusal.NoShared = refl
+back refusal.Parked = refl
+back refusal.BadImage = refl
+back refusal.ShortBuffer = refl
 
 pub refusal-told-once : (p q : Refusal) → refusalTold p ≡ refusalTold q → p ≡ q
 refusal-told-once p q e = sym (back p) ∙ ap refusalOf e ∙ back q

@@ -17,3 +17,6 @@ refusalTold refusal.Unsound = answer.unsound
 refusalTold refusal.NoTerm = answer.noTerm
 refusalTold refusal.BadEdition = answer.badEdition
 refusalTold refusal.NoShared = answer.noShared
+refusalTold refusal.Parked = answer.parked
+refusalTold refusal.BadImage = answer.badImage
+refusalTold refusal.ShortBuffer = answer.shortBuffer

@@ -21,6 +21,9 @@ pub enum Refusal {
     NoTerm,
     BadEdition,
     NoShared,
+    Parked,
+    BadImage,
+    ShortBuffer,
 }
 
 // The number of a refusal, by document 01's table.
@@ -41,5 +44,8 @@ pub fn number_of(why: Refusal) -> u32
         Refusal::NoTerm => 11,
         Refusal::BadEdition => 12,
         Refusal::NoShared => 13,
+        Refusal::Parked => 14,
+        Refusal::BadImage => 15,
+        Refusal::ShortBuffer => 16,
     }
 }

@@ -7,7 +7,8 @@ use lib.ListN.{length, replicate}
 use Rattle.answers.specs.Answer.{unsound, numberOf, Refusal, Answer, refused, given, number}
 use Rattle.memory.specs.Memory.{Left}
 use Rattle.uplink.specs.Told.{leaving}
-use Rattle.driver.specs.Entered.{shown, entry, entered}
+use Rattle.image.specs.Parked.{Parked, parking}
+use Rattle.driver.specs.Entered.{shown, entry, entered, parkBytes, parkEntry, parkEntered}
 
 module _ {A : Type 0} (n : ℕ) (bytes : A → List ℕ) (left : Left A) (state answer : List ℕ) where
   pub entered-kept : (length answer ≡ n → ⊥) → entry (numberOf unsound) state answer ≡ entered n bytes left state answer
@@ -29,3 +30,19 @@ module _ {A : Type 0} (n : ℕ) (bytes : A → List ℕ) (left : Left A) (state 
       → entry r s a ≡ entered n bytes left state answer
   unfolding entered
   entered-told x on e (p, q) = rw (p, q, ← e, eq-eqb (length answer) n on)
+
+-- a parking by its three ways
+module _ (left : Parked) (state image answer : List ℕ) where
+  pub park-kept : (length answer ≡ 4 → ⊥) → parkEntry (numberOf unsound) state image answer ≡ parkEntered left state image answer
+  unfolding parkEntered
+  park-kept off = rw (ne-eqb (length answer) 4 off)
+
+  pub park-refused : {r : ℕ} {s i a : List ℕ} (w : Refusal) → length answer ≡ 4 → parking (refused w) s i ≡ left
+      → (r ≡ numberOf w) × (a ≡ replicate (length answer) 0) → parkEntry r s i a ≡ parkEntered left state image answer
+  unfolding parkEntered
+  park-refused w on e (p, q) = rw (p, q, ← e, eq-eqb (length answer) 4 on, on)
+
+  pub park-given : {r : ℕ} {s i a : List ℕ} (n : ℕ) → length answer ≡ 4 → parking (given n) s i ≡ left → (r ≡ 0) × (a ≡ parkBytes n)
+      → parkEntry r s i a ≡ parkEntered left state image answer
+  unfolding parkEntered
+  park-given n on e (p, q) = rw (p, q, ← e, eq-eqb (length answer) 4 on)

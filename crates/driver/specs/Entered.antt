@@ -11,6 +11,7 @@ use Rattle.rules.specs.Next.{Sent}
 use Rattle.rules.specs.Listed.{openedFields, takenFields, closedFields, sentFields, askedFields}
 use Rattle.memory.specs.Memory.{Left}
 use Rattle.uplink.specs.Told.{leaving}
+use Rattle.image.specs.Parked.{Parked}
 use Rattle.driver.specs.Words.{lowFirst, words, twos}
 
 -- what the caller has in hand after a call; a call that is lent no state, or no answer buffer, has [] there
@@ -32,6 +33,24 @@ unfoldable pub entered : {A : Type 0} → ℕ → (A → List ℕ) → Left A �
 entered n bytes left state answer =
     cond (eqb (length answer) n) (entry (number (left .answer)) (left .bytes) (shown n bytes (left .answer)))
     (entry (numberOf unsound) state answer)
+
+-- what the caller has in hand after a parking, whose image goes into a buffer of its own; the answer is 4 bytes, the image's length
+pub record ParkEntry : Type 0 where
+  pub number : ℕ
+  pub state : List ℕ
+  pub image : List ℕ
+  pub answer : List ℕ
+
+abbrev pub parkEntry : ℕ → List ℕ → List ℕ → List ℕ → ParkEntry
+parkEntry n s i a = record { number = n; state = s; image = i; answer = a }
+
+abbrev pub parkBytes : ℕ → List ℕ
+parkBytes n = words (n ∷ [])
+
+unfoldable pub parkEntered : Parked → List ℕ → List ℕ → List ℕ → ParkEntry
+parkEntered left state image answer =
+    cond (eqb (length answer) 4) (parkEntry (number (left .answer)) (left .state) (left .image) (shown 4 parkBytes (left .answer)))
+    (parkEntry (numberOf unsound) state image answer)
 
 -- what a call without a state leaves
 abbrev pub stateless : {A : Type 0} → Answer A → Left A

@@ -8,6 +8,8 @@ use fields::bits_of;
 use fields::give;
 use fields::refuse;
 use fields::wrong_length;
+use image::ParkAnswer;
+use image::UnparkAnswer;
 use octets::low_first::write_u64;
 use records::sent;
 use records::taken;
@@ -23,7 +25,8 @@ ghost use Rattle.spread.specs.Calls.{termCall, leadCall};
 ghost use Rattle.rules.specs.Calls.{openCall, putCall, closeCall, askCall};
 ghost use Rattle.rules.specs.Next.{nextCall};
 ghost use Rattle.memory.specs.Memory.{on, startOn};
-ghost use Rattle.driver.specs.Entered.{entry, entered, stateless, startBytes, openBytes, putBytes, closeBytes, nextBytes, askBytes, termBytes, leadBytes};
+ghost use Rattle.image.specs.Parked.{parkOn, readOn};
+ghost use Rattle.driver.specs.Entered.{entry, entered, parkEntry, parkEntered, stateless, startBytes, openBytes, putBytes, closeBytes, nextBytes, askBytes, termBytes, leadBytes};
 
 pub mod fields; // fields.rt: numbers and fields
 pub mod records; // records.rt: what Put and Next answer
@@ -123,6 +126,34 @@ pub extern "C" fn uplink_ask(state: &[u8], slot: u32, ticket: u32, answer: &mut 
             give(answer, &fields)
         }
         AskAnswer::Refused(why) => refuse(answer, why),
+    }
+}
+
+// Parks the queues: the image of the state goes into a buffer, and the state takes only start and the reader from then on. Answer: the image's length.
+#[no_mangle]
+pub extern "C" fn uplink_park(state: &mut [u8], image: &mut [u8], answer: &mut [u8]) -> u32
+    ensures { λ r. ⌜ parkEntry r (now (state .exit)) (now (image .exit)) (now (answer .exit)) ≡ parkEntered (parkOn 1 (now (state .entry)) (now (image .entry))) (now (state .entry)) (now (image .entry)) (now (answer .entry)) ⌝ }
+{
+    if answer.len() != 4 {
+        return wrong_length();
+    }
+    match image::writer::park(state, image) {
+        ParkAnswer::Parked(length) => {
+            let fields = [length];
+            give(answer, &fields)
+        }
+        ParkAnswer::Refused(why) => refuse(answer, why),
+    }
+}
+
+// Reads an image into the state, whatever stood there. It has no answer buffer.
+#[no_mangle]
+pub extern "C" fn uplink_unpark(state: &mut [u8], image: &[u8]) -> u32
+    ensures { λ r. ⌜ entry r (now (state .exit)) [] ≡ entered 0 startBytes (readOn (now (image .entry)) (now (state .entry))) (now (state .entry)) [] ⌝ }
+{
+    match image::reader::unpark(state, image) {
+        UnparkAnswer::Read => 0,
+        UnparkAnswer::Refused(why) => number_of(why),
     }
 }
 

@@ -5,7 +5,7 @@ pub data Name : Type 0 where
   -- a number for each slot, or row
   rows kind waiting ticket weight deficit serial : Name
   -- one number
-  rowCount order position column mask visit edition : Name
+  rowCount order position column mask visit edition parked : Name
   -- bytes that stand for nothing
   nothing : Name
   -- a number for each waiting record
@@ -27,6 +27,7 @@ code column = 10
 code mask = 11
 code visit = 12
 code edition = 13
-code nothing = 14
-code length = 15
-code reference = 16
+code parked = 14
+code nothing = 15
+code length = 16
+code reference = 17

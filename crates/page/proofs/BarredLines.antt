@@ -1,6 +1,6 @@
 -- "grep -v '^|'": a page is lines that begin with `|`, and no other line does, so what is left without them is lift's own output.
 use mathlib.Core.Path.{_≡_, refl, sym, ap, _∙_}
-use mathlib.Core.Bool.{Bool, true, false, not, cond}
+use mathlib.Core.Bool.{Bool, true, false, not, cond, _||_}
 use mathlib.Core.List.{List, [], _∷_, _++_, append-assoc}
 use mathlib.Core.Option.{Option, none, some}
 use Prim.Native.Nat.{ℕ, zero, suc, _+_, _-_}
@@ -151,7 +151,7 @@ by-bar s (given x) =
 
 pub page-bar : (b : List ℕ) → BarLines (pageOn b)
 unfolding pageOn pageOf
-page-bar b = go (soundBytes b) (isEmpty (stateOf b .rows))
+page-bar b = go (soundBytes b) (stateOf b .parked || isEmpty (stateOf b .rows))
   where
     go : (t e : Bool) → BarLines (cond t (cond e [] (pageBy (stateOf b) (chooseBy (stateOf b .scan .visit) (stateOf b)))) [])
     go true true = no-more

@@ -1,6 +1,6 @@
 -- The page put from the code's numbers is that of the choice the rules make: masks tell lists, and a term taken leaves a position above 0.
 use mathlib.Core.Path.{_≡_, refl, sym, ap, _∙_}
-use mathlib.Core.Bool.{Bool, true, false, cond}
+use mathlib.Core.Bool.{Bool, true, false, cond, _||_}
 use mathlib.Core.List.{List, [], _∷_, _++_}
 use Prim.Native.Nat.{ℕ, zero, suc, _+_, _*_, _-_, _^_, _≤_, _<_}
 use native.Mathlib.Omega.{arith}
@@ -99,10 +99,12 @@ page-made s y once =
         → rowLine i (f i) (cellsOf k (f i)) (cond (eqb i j) visitWord (cond (eqb m 1) toVisitWord [])) ≡ rowLine i (f i) (cellsOf k (f i)) (cond (eqb i j) visitWord (cond (eqb n 1) toVisitWord []))
     line-same f k j i e = ap (λ (m : ℕ). rowLine i (f i) (cellsOf k (f i)) (cond (eqb i j) visitWord (cond (eqb m 1) toVisitWord []))) e
 
--- the page of a state with rows is that of its choice
-page-by : (s : State) (y : rules.Chosen) → isEmpty (s .rows) ≡ false → chosenOf s ≡ given y → pageOf s ≡ pageBy s (given y)
+-- the page of a state with rows that isn't parked is that of its choice
+page-by : (s : State) (y : rules.Chosen) → s .parked ≡ false → isEmpty (s .rows) ≡ false → chosenOf s ≡ given y → pageOf s ≡ pageBy s (given y)
 unfolding pageOf
-page-by s y filled e = ap (λ (t : Bool). cond t [] (pageBy s (chosenOf s))) filled ∙ ap (pageBy s) e
+page-by s y unmarked filled e =
+    ap (λ (m : Bool). cond (m || isEmpty (s .rows)) [] (pageBy s (chosenOf s))) unmarked
+    ∙ ap (λ (t : Bool). cond t [] (pageBy s (chosenOf s))) filled ∙ ap (pageBy s) e
 
 listed-once : {b : Stage} {s : State} → SoundTo b s → Once (s .scan .toVisit)
 listed-once S = let F = sound-fits S in once-part (F .part) (F .once)
@@ -148,15 +150,15 @@ module _ {b : List ℕ} {p : Scan} {x : Chosen} (C : Chooses b p) (e : given x �
       rw (M .numbers)
       (record { order-low = order-most S; position-low = S .position; position-some = chosen-some (M .way) })
 
-  pub page-same : pageIn (weights (here .channels)) (here .rows) p x ≡ pageOf here
-  page-same =
+  pub page-same : here .parked ≡ false → pageIn (weights (here .channels)) (here .rows) p x ≡ pageOf here
+  page-same unmarked =
       let M = was-made in
       let f = weights (here .channels) in
       let once = choosing.choice (C .memory .state) (C .filled) (M .way) .sound in
       ap (λ (q : Scan). pageIn f (here .rows) q x) (C .scan-is)
       ∙ ap (λ (z : Chosen). pageIn f (here .rows) (inNumbers (here .scan)) z) (M .numbers)
       ∙ page-made here (M .made) (listed-once once)
-      ∙ sym (page-by here (M .made) (C .filled) (M .chosen))
+      ∙ sym (page-by here (M .made) unmarked (C .filled) (M .chosen))
 
   pub page-fits : length (pageIn (weights (here .channels)) (here .rows) p x) ≤ pageRoom
   page-fits =

@@ -5,8 +5,8 @@ use Prim.Native.Nat.{ℕ, suc, zero-le, _+_, _-_, _≤_, _<_}
 use native.Mathlib.Nat.{add-zero}
 use native.Mathlib.Omega.{arith}
 use lib.ListN.{length, replicate, length-append, length-replicate}
-use Rattle.text.specs.Writing.{written}
-use Rattle.text.proofs.WritingLaws.{written-none, written-next, place-next, length-written}
+use Rattle.octets.specs.Writing.{written}
+use Rattle.octets.proofs.WritingLaws.{written-none, written-next, place-next, length-written}
 use Rattle.text.specs.Answers.{Stands}
 use Rattle.text.proofs.OutputLaws.{written-stands}
 use Rattle.page.specs.Puts.{Puts, gap}

@@ -5,7 +5,7 @@
 --     |       0        5    1  .  1   visit
 --     |       2        4    1  .  .   to visit
 --     |       1        3    .  1  1
-use mathlib.Core.Bool.{Bool, cond}
+use mathlib.Core.Bool.{Bool, cond, _||_}
 use mathlib.Core.List.{List, [], _∷_, _++_}
 use mathlib.Core.Option.{Option, none, some}
 use Prim.Native.Nat.{ℕ, zero, suc, _+_, _*_}
@@ -122,9 +122,9 @@ pageBy s (given x) =
     pageText (x .state .order) (x .state .scan .position) (scanned s x) (s .rows) (weights (s .channels)) (x .slot)
     (λ i. eqb (occurs i (x .state .scan .toVisit)) 1)
 
--- no page where Next is refused: without rows, or on a memory that is not sound
+-- no page where Next is refused: of a parked state, without rows, or on a memory that is not sound
 unfoldable pub pageOf : State → List ℕ
-pageOf s = cond (isEmpty (s .rows)) [] (pageBy s (chooseBy (s .scan .visit) s))
+pageOf s = cond (s .parked || isEmpty (s .rows)) [] (pageBy s (chooseBy (s .scan .visit) s))
 
 unfoldable pub pageOn : List ℕ → List ℕ
 pageOn b = cond (soundBytes b) (pageOf (stateOf b)) []

@@ -4,6 +4,7 @@
 // cells are those of its matrix.
 use bits::trailing_of;
 use memory::point::Scan;
+use memory::point::is_parked;
 use memory::point::load_scan;
 use memory::rows::row_count;
 use plain::choose::choose;
@@ -17,15 +18,15 @@ use text::command::Command;
 use text::reader::line_at;
 use visits::choose::Chosen;
 ghost use mathlib.Core.Path.{_≡_};
-ghost use mathlib.Core.Bool.{true, false};
+ghost use mathlib.Core.Bool.{false};
 ghost use Prim.Native.Nat.{_+_, _^_, _≤_, _<_};
 ghost use lib.ListN.{length};
 ghost use Rattle.lists.specs.Tests.{isEmpty};
 ghost use Rattle.spread.specs.Limits.{columns};
 ghost use Rattle.rules.specs.State.{weights};
-ghost use Rattle.memory.specs.Memory.{soundBytes};
 ghost use Rattle.memory.specs.Reading.{stateOf};
 ghost use Rattle.memory.specs.Search.{RowsWithin};
+ghost use Rattle.uplink.specs.Holds.{TakesCalls};
 ghost use Rattle.text.specs.Answers.{Stands};
 ghost use Rattle.text.specs.Commands.{commandOf};
 ghost use Rattle.text.specs.Lines.{lineAt};
@@ -89,9 +90,9 @@ fn put_body(state: &[u8], out: &mut [u8], at: usize, chosen: Chosen) -> usize
     rows::put_rows(state, &matrix, out, at, chosen)
 }
 
-// The page of a sound memory with rows, as what Next does on it.
+// The page of a memory that takes calls and has rows, as what Next does on it.
 fn page_of(state: &[u8], out: &mut [u8]) -> usize
-    requires { ⌜ (soundBytes (now state) ≡ true) × (isEmpty (stateOf (now state) .rows) ≡ false) × (pageRoom ≤ length (now out)) ⌝ }
+    requires { ⌜ TakesCalls (now state) × (isEmpty (stateOf (now state) .rows) ≡ false) × (pageRoom ≤ length (now out)) ⌝ }
     ensures { λ r. ⌜ Puts (now (out .entry)) 0 (pageOf (stateOf (now (state .entry)))) r (now (out .exit)) ⌝ }
 {
     let scan = load_scan(state);
@@ -106,6 +107,9 @@ pub fn page(state: &[u8], out: &mut [u8]) -> usize
     ensures { λ r. ⌜ Stands (pageOn (now (state .entry))) r (now (out .exit)) ⌝ }
 {
     if !check(state) {
+        return 0;
+    }
+    if is_parked(state) {
         return 0;
     }
     if row_count(state) == 0 {

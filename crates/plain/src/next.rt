@@ -2,16 +2,17 @@
 use super::choose::choose;
 use super::order::order_again;
 use answers::Refusal;
+use memory::point::is_parked;
 use memory::point::load_scan;
 use memory::rows::row_count;
 use soundness::check;
 use uplink::NextAnswer;
 use uplink::next::send;
 ghost use mathlib.Core.Path.{_≡_};
-ghost use mathlib.Core.Bool.{true};
 ghost use Rattle.rules.specs.Next.{nextCall};
-ghost use Rattle.memory.specs.Memory.{soundBytes, replied, on};
+ghost use Rattle.memory.specs.Memory.{replied, on};
 ghost use Rattle.memory.specs.Reading.{stateOf};
+ghost use Rattle.uplink.specs.Holds.{TakesCalls};
 ghost use Rattle.uplink.specs.Told.{nextTold, leaving};
 
 // Next sends one record: an open visit goes on, or the first slot still to visit starts one, or the first of the next column that has a row.
@@ -21,12 +22,15 @@ pub fn next(state: &mut [u8]) -> NextAnswer
     if !check(state) {
         return NextAnswer::Refused(Refusal::Unsound);
     }
+    if is_parked(state) {
+        return NextAnswer::Refused(Refusal::Parked);
+    }
     next_in(state)
 }
 
-// Next on a sound memory.
+// Next on a memory that takes calls.
 fn next_in(state: &mut [u8]) -> NextAnswer
-    requires { ⌜ soundBytes (now state) ≡ true ⌝ }
+    requires { ⌜ TakesCalls (now state) ⌝ }
     ensures { λ r. ⌜ leaving (nextTold r) (now (state .exit)) ≡ replied (now (state .entry)) (nextCall (stateOf (now (state .entry)))) ⌝ }
 {
     if row_count(state) == 0 {

@@ -1,6 +1,7 @@
 // Put, the order worked out on paper where a slot has joined the rows. The record is taken as the linked engine takes it.
 use super::order::rise;
 use answers::Refusal;
+use memory::point::is_parked;
 use soundness::check;
 use uplink::PutAnswer;
 use uplink::put::joins;
@@ -16,6 +17,9 @@ pub fn put(state: &mut [u8], slot: u32, ticket: u32, length: u32, reference: u32
 {
     if !check(state) {
         return PutAnswer::Refused(Refusal::Unsound);
+    }
+    if is_parked(state) {
+        return PutAnswer::Refused(Refusal::Parked);
     }
     let answer = put_in(state, slot, ticket, length, reference);
     if !joins(answer) {

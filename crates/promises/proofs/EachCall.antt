@@ -6,7 +6,7 @@ use mathlib.Core.Bool.{true, false, true≢false, false≢true}
 use native.Mathlib.Omega.{arith}
 use Rattle.lists.specs.Slots.{occurs}
 use Rattle.lists.proofs.SlotsLaws.{if-eq}
-use Rattle.answers.specs.Answer.{noneWaits, refused, given}
+use Rattle.answers.specs.Answer.{Refusal, refused, given}
 use Rattle.rules.specs.State.{State, fresh, at}
 use Rattle.rules.specs.Reply.{Done, after}
 use Rattle.rules.specs.Next.{Sent, nextCall}
@@ -37,7 +37,7 @@ pub counted-given : (f : Sent → ℕ) (s : State) {d : Done Sent} → nextCall 
 unfolding reply
 counted-given f s e = rw e refl
 
-pub counted-refused : (f : Sent → ℕ) (s : State) → nextCall s ≡ refused noneWaits → counted f s toNext ≡ 0
+pub counted-refused : (f : Sent → ℕ) (s : State) {n : Refusal} → nextCall s ≡ refused n → counted f s toNext ≡ 0
 unfolding reply
 counted-refused f s e = rw e refl
 

@@ -1,17 +1,18 @@
 -- What calls are made of: their moments are lawful and lead to what the calls leave. A Next chooses and sends, and the round may be over then; any other call
 -- is one moment.
 use mathlib.Core.Path.{_≡_, refl, sym, ap, _∙_, subst}
-use mathlib.Core.Bool.{Bool, true, false, cond}
+use mathlib.Core.Bool.{Bool, true, false, cond, _||_}
 use mathlib.Core.List.{List, [], _∷_, _++_}
 use mathlib.Core.Option.{none}
 use Rattle.lists.specs.Tests.{isEmpty}
-use Rattle.answers.specs.Answer.{noneWaits, refused}
+use Rattle.answers.specs.Answer.{Refusal, refused}
 use Rattle.rules.specs.State.{State, at}
 use Rattle.rules.specs.Reply.{after}
 use Rattle.rules.specs.Next.{endingRound, paying, settled, Chosen, nextCall}
 use Rattle.rules.specs.Calls.{Call, toNext, step, run, InRange, AllInRange}
 use Rattle.rules.specs.Facts.{Sound}
 use Rattle.rules.proofs.Served.{Served, served, eight}
+use Rattle.rules.proofs.Parking.{parked-next}
 use Rattle.rules.proofs.Steps.{term-kept, ended-kept}
 use Rattle.rules.proofs.Kept.{step-kept}
 use Rattle.promises.specs.Moments.{Moment, aTerm, anEnd, aVisit, aSend, aCall, moved, movedBy, endOf, chooseMoments, nextMoments, isNext, momentsOf, momentsAlong}
@@ -62,9 +63,9 @@ chosen-leads S e (by-scan v way) = scanned-leads S v e way
 
 -- ---- any call, and any list of calls
 
--- what a call leaves, and its moments: none of a Next without rows, those of a Next that sends, one of any other call
+-- what a call leaves, and its moments: none of a Next that is refused, those of a Next that sends, one of any other call
 pub data Made (s : State) : Call → State → List Moment → Type 0 where
-  unserved : nextCall s ≡ refused noneWaits → Made s toNext s []
+  unserved : {n : Refusal} → nextCall s ≡ refused n → Made s toNext s []
   serving : {s′ : State} {choosing ends : List Moment} → isEmpty (s .rows) ≡ false → (N : Served s) → ChosenBy (N .chosen) s choosing
       → EndedBy (moved (N .chosen .state) aSend) s′ ends → Made s toNext s′ (choosing ++ aSend ∷ ends)
   other : {c : Call} → isNext c ≡ false → Made s c (step s c) (aCall c ∷ [])
@@ -85,12 +86,16 @@ pub made : {s : State} → Sound s → (c : Call) → Made s c (step s c) (momen
 unfolding momentsOf
 made {s} S c = go (isNext c) refl
   where
-    next : (b : Bool) → isEmpty (s .rows) ≡ b → Made s toNext (after s (nextCall s)) (cond b [] (nextMoments s))
-    next true e = let q = eight s e in subst (λ (r : State). Made s toNext r []) (sym (ap (after s) q)) (unserved q)
-    next false e = next-made S e (served S e)
+    none-of : {n : Refusal} → nextCall s ≡ refused n → Made s toNext (after s (nextCall s)) []
+    none-of q = subst (λ (r : State). Made s toNext r []) (sym (ap (after s) q)) (unserved q)
 
-    go : (b : Bool) → isNext c ≡ b → Made s c (step s c) (cond b (cond (isEmpty (s .rows)) [] (nextMoments s)) (aCall c ∷ []))
-    go true e = rw (is-next c e, step-next s) (next (isEmpty (s .rows)) refl)
+    next : (p : Bool) → s .parked ≡ p → (b : Bool) → isEmpty (s .rows) ≡ b → Made s toNext (after s (nextCall s)) (cond (p || b) [] (nextMoments s))
+    next true p b e = none-of (parked-next s p)
+    next false p true e = none-of (eight s e p)
+    next false p false e = next-made S e (served S e p)
+
+    go : (b : Bool) → isNext c ≡ b → Made s c (step s c) (cond b (cond (s .parked || isEmpty (s .rows)) [] (nextMoments s)) (aCall c ∷ []))
+    go true e = rw (is-next c e, step-next s) (next (s .parked) refl (isEmpty (s .rows)) refl)
     go false e = other e
 
 made-leads : {s s′ : State} {c : Call} {ms : List Moment} → InRange c → Sound s → Made s c s′ ms → Leads s ms s′

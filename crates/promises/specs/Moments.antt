@@ -1,6 +1,6 @@
 -- The moments of calls: the single steps that a call is made of, and what is counted at each. They carry no slot: the state says which it is.
 use Prim.Native.Nat.{ℕ, zero, suc, _+_}
-use mathlib.Core.Bool.{Bool, true, false, cond}
+use mathlib.Core.Bool.{Bool, true, false, cond, _||_}
 use mathlib.Core.List.{List, [], _∷_, _++_}
 use mathlib.Core.Option.{Option, none, some}
 use lib.Dec.{eqb}
@@ -66,9 +66,9 @@ nextMoments s =
 abbrev pub isNext : Call → Bool
 isNext = ofNext false true
 
--- (a Next without rows is refused and has none)
+-- (a Next of a parked state, or without rows, is refused and has none)
 unfoldable pub momentsOf : State → Call → List Moment
-momentsOf s c = cond (isNext c) (cond (isEmpty (s .rows)) [] (nextMoments s)) (aCall c ∷ [])
+momentsOf s c = cond (isNext c) (cond (s .parked || isEmpty (s .rows)) [] (nextMoments s)) (aCall c ∷ [])
 
 unfoldable pub momentsAlong : State → List Call → List Moment
 momentsAlong s [] = []

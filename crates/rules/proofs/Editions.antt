@@ -85,6 +85,7 @@ holding-at k p =
       rows = s .rows;
       order = k;
       scan = record { position = p; column = 0; toVisit = []; visit = s .scan .visit };
+      parked = s .parked;
     }
 
 sound-held : (sound (fresh 0) ≡ false) × (sound (fresh 1) ≡ true) × (sound (fresh 2) ≡ true) × (sound (fresh 3) ≡ false)

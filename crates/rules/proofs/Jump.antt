@@ -228,7 +228,7 @@ module _ (s : State) (S : Sound s) (v : s .scan .visit ≡ none) (l : s .scan .t
           true≢false (sym (ap isEmpty (found-empty s (suc (suc (s .scan .position))) (d (suc (suc (s .scan .position))) (omega arith) m))) ∙ f)
 
       ordered : ℕ → State
-      ordered k = record { edition = s .edition; channels = s .channels; rows = s .rows; order = k; scan = s .scan }
+      ordered k = record { edition = s .edition; channels = s .channels; rows = s .rows; order = k; scan = s .scan; parked = s .parked }
 
   pub scan-jumps : scanning (termsMost s) 0 s ≡ jumping s
   unfolding jumping

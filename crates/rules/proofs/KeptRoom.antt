@@ -1,6 +1,6 @@
--- What "kept" promises: a channel with fewer than two records waiting is never refused for room, whatever the others hold.
+-- What "kept" promises: a channel with fewer than two records waiting is never refused for room, whatever the others hold. (A parked state refuses every Put.)
 use Prim.Native.Nat.{ℕ, _≤_, _<_}
-use mathlib.Core.Path.{_≡_, refl, sym, _∙_}
+use mathlib.Core.Path.{_≡_, refl, sym, ap, _∙_}
 use mathlib.Core.Bool.{false, false≢true}
 use mathlib.Core.List.{List}
 use mathlib.Core.Logic.{inl, inr}
@@ -14,8 +14,9 @@ use Rattle.answers.proofs.Answers.{GivenBy, number-by}
 use Rattle.rules.specs.Numbers.{room, kept}
 use Rattle.rules.specs.State.{State, at, sharedUse}
 use Rattle.rules.specs.Calls.{putChecks, putCall, noCell}
+use Rattle.rules.proofs.Parking.{unparked-is}
 
-module _ (i t n r : ℕ) (s : State) (few : length (at (s .channels) i .waiting) < kept) where
+module _ (i t n r : ℕ) (s : State) (unmarked : s .parked ≡ false) (few : length (at (s .channels) i .waiting) < kept) where
   abbrev checks : List Check
   checks = putChecks i t n (at (s .channels) i) (sharedUse (s .channels))
 
@@ -39,6 +40,6 @@ module _ (i t n r : ℕ) (s : State) (few : length (at (s .channels) i .waiting)
   pub kept-room : number (putCall i t n r s) ≤ 4
   unfolding putCall
   kept-room = elim (decLt 4 (number (putCall i t n r s))) [
-    | yes h ↦ elim (number-by checks _ (number (putCall i t n r s)) refl) [ inl z ↦ omega arith | inr g ↦ absurd (no-more (number (putCall i t n r s)) h g) ]
+    | yes h ↦ elim (number-by checks _ (number (putCall i t n r s)) (sym (ap number (unparked-is s _ unmarked)))) [ inl z ↦ omega arith | inr g ↦ absurd (no-more (number (putCall i t n r s)) h g) ]
     | no h ↦ omega arith
   ]

@@ -80,13 +80,14 @@ pub record SameButOrder (s s′ : State) : Type 0 where
   pub column : s′ .scan .column ≡ s .scan .column
   pub toVisit : s′ .scan .toVisit ≡ s .scan .toVisit
   pub visit : s′ .scan .visit ≡ s .scan .visit
+  pub parked : s′ .parked ≡ s .parked
 
 pub ending-same : (s : State) → SameButOrder s (endingRound s)
 ending-same s = go (roundOver s)
   where
     go : (b : Bool) → SameButOrder s (cond b (roundEnded s) s)
-    go true = record { edition = refl; channels = refl; rows = refl; column = refl; toVisit = refl; visit = refl }
-    go false = record { edition = refl; channels = refl; rows = refl; column = refl; toVisit = refl; visit = refl }
+    go true = record { edition = refl; channels = refl; rows = refl; column = refl; toVisit = refl; visit = refl; parked = refl }
+    go false = record { edition = refl; channels = refl; rows = refl; column = refl; toVisit = refl; visit = refl; parked = refl }
 
 -- what a stage asks goes by the test alone
 pub end-same : (b : Stage) (s s′ : State) → roundOver s′ ≡ roundOver s → EndOk b s → EndOk b s′

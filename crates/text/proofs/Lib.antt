@@ -3,7 +3,6 @@ pub mod NumberLaws
 pub mod SpacedLaws
 pub mod LineLaws
 pub mod PlaceLaws
-pub mod WritingLaws
 pub mod ShownCommands
 pub mod ReadLines
 pub mod PrintingLaws

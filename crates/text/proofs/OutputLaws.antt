@@ -15,10 +15,10 @@ use Rattle.memory.specs.Memory.{freshMemory, startOn}
 use Rattle.memory.proofs.OnLaws.{startOn-fresh}
 use Rattle.text.specs.Lines.{linesOf, lineAt, lineAfter}
 use Rattle.text.specs.Commands.{commandOf}
-use Rattle.text.specs.Writing.{written}
+use Rattle.octets.specs.Writing.{written}
 use Rattle.text.specs.Answers.{lineAnswer, output, most, tooLong, lift, widest, halfWidest, Prints, roomFor, Stands}
 use Rattle.text.proofs.LineLaws.{lines-after, after-within}
-use Rattle.text.proofs.WritingLaws.{take-written, length-written}
+use Rattle.octets.proofs.WritingLaws.{take-written, length-written}
 
 -- no line
 output-none : (b s : List ℕ) (at : ℕ) → length s ≤ at → output b (linesOf (drop at s)) ≡ []

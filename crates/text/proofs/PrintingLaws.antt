@@ -5,10 +5,11 @@ use Prim.Native.Nat.{ℕ, zero, suc, _+_, _^_, _≤_, _<_}
 use native.Mathlib.Omega.{arith}
 use lib.Dec.{lit<}
 use lib.ListN.{length, getD}
-use Rattle.answers.specs.Answer.{Refusal, noSlot, notPresent, atClosing, badLength, full, badWeight, noneFree, noneWaits, noRow, unsound, noTerm, badEdition, noShared, numberOf, Answer}
+use Rattle.answers.specs.Answer.{Refusal, noSlot, notPresent, atClosing, badLength, full, badWeight, noneFree, noneWaits, noRow, unsound, noTerm, badEdition, noShared, parked, badImage, shortBuffer, numberOf, Answer}
 use Rattle.memory.specs.Memory.{Left}
 use Rattle.uplink.specs.Told.{leaving}
-use Rattle.text.specs.Writing.{written, answerLine}
+use Rattle.octets.specs.Writing.{written}
+use Rattle.text.specs.Writing.{answerLine}
 use Rattle.text.specs.Answers.{said, widest, Prints}
 use Rattle.text.proofs.SpacedLaws.{spaced-length, answer-length}
 
@@ -36,6 +37,9 @@ number-small unsound = lit< tt
 number-small noTerm = lit< tt
 number-small badEdition = lit< tt
 number-small noShared = lit< tt
+number-small parked = lit< tt
+number-small badImage = lit< tt
+number-small shortBuffer = lit< tt
 
 module _ (letter : ℕ) (ns : List ℕ) (small : Small ns) (few : length ns ≤ 7) where
   -- a letter and at most seven numbers

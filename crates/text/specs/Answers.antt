@@ -14,7 +14,8 @@ use Rattle.rules.specs.Listed.{openedFields, takenFields, closedFields, sentFie
 use Rattle.memory.specs.Memory.{Left, on, freshMemory}
 use Rattle.text.specs.Lines.{linesOf}
 use Rattle.text.specs.Commands.{commandOf}
-use Rattle.text.specs.Writing.{written, answerLine}
+use Rattle.octets.specs.Writing.{written}
+use Rattle.text.specs.Writing.{answerLine}
 
 -- ---- "the letter and the answer's fields as listed above, or `R` and the number"
 

@@ -5,7 +5,8 @@ ghost use Prim.Native.Nat.{_+_, _≤_, _<_};
 ghost use lib.ListN.{length};
 ghost use Rattle.text.specs.Digits.{digits};
 ghost use Rattle.text.specs.Commands.{spaced};
-ghost use Rattle.text.specs.Writing.{written, answerLine};
+ghost use Rattle.octets.specs.Writing.{written};
+ghost use Rattle.text.specs.Writing.{answerLine};
 
 // One byte.
 pub fn put_byte(out: &mut [u8], at: usize, b: u8) -> usize

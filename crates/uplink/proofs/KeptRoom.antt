@@ -1,4 +1,4 @@
--- What "kept" promises, on any lent bytes: where fewer than two records wait in a slot, a Put there is never refused for room. The number that a call gives is 10 or
+-- What "kept" promises, on any lent bytes: where fewer than two records wait in a slot, a Put there is never refused for room. (A parked state refuses every Put.) The number that a call gives is 10 or
 -- the rules' own, and theirs is 0 to 4.
 use Prim.Native.Nat.{ℕ, _≤_, _<_}
 use mathlib.Core.Path.{_≡_, refl}
@@ -31,6 +31,7 @@ module _ {A : Type 0} (f : State → Reply A) (b : List ℕ) where
       go true = inr (number-replied (f (stateOf b)))
       go false = inl refl
 
-pub kept-room-on : (i t n r : ℕ) (b : List ℕ) → length (at (stateOf b .channels) i .waiting) < kept
+pub kept-room-on : (i t n r : ℕ) (b : List ℕ) → stateOf b .parked ≡ false → length (at (stateOf b .channels) i .waiting) < kept
     → (number (on (putCall i t n r) b .answer) ≡ 10) ⊎ (number (on (putCall i t n r) b .answer) ≤ 4)
-kept-room-on i t n r b few = elim (number-ruled (putCall i t n r) b) [ inl z ↦ inl z | inr e ↦ inr (rw e (kept-room i t n r (stateOf b) few)) ]
+kept-room-on i t n r b unmarked few =
+    elim (number-ruled (putCall i t n r) b) [ inl z ↦ inl z | inr e ↦ inr (rw e (kept-room i t n r (stateOf b) unmarked few)) ]

@@ -4,6 +4,7 @@ use answers::Refusal;
 use memory::heads::Head;
 use memory::heads::load_head;
 use memory::heads::waiting_of;
+use memory::point::is_parked;
 use memory::point::load_scan;
 use memory::records::first_of;
 use memory::records::load_record;
@@ -17,14 +18,15 @@ use visits::choose::choose;
 use visits::order::order_again;
 use visits::settle::settle;
 ghost use mathlib.Core.Path.{_≡_};
-ghost use mathlib.Core.Bool.{true};
+ghost use mathlib.Core.Bool.{false};
 ghost use Prim.Native.Nat.{_+_, _-_, _*_, _%_, _≤_, _<_};
 ghost use lib.ListN.{length};
 ghost use Rattle.rules.specs.Numbers.{slots, granted, serials, grantLimit};
 ghost use Rattle.rules.specs.Next.{nextCall};
 ghost use Rattle.memory.specs.Layout.{memoryLength};
-ghost use Rattle.memory.specs.Memory.{soundBytes, replied, on};
+ghost use Rattle.memory.specs.Memory.{replied, on};
 ghost use Rattle.memory.specs.Reading.{waitingAt, stateOf};
+ghost use Rattle.uplink.specs.Holds.{TakesCalls};
 ghost use Rattle.uplink.specs.Told.{nextTold, leaving};
 ghost use Rattle.uplink.specs.NextSteps.{Sends};
 ghost use Rattle.visits.specs.Choice.{Chose};
@@ -37,12 +39,15 @@ pub fn next(state: &mut [u8]) -> NextAnswer
     if !check(state) {
         return NextAnswer::Refused(Refusal::Unsound);
     }
+    if is_parked(state) {
+        return NextAnswer::Refused(Refusal::Parked);
+    }
     next_in(state)
 }
 
-// Next on a sound memory.
+// Next on a memory that takes calls.
 fn next_in(state: &mut [u8]) -> NextAnswer
-    requires { ⌜ soundBytes (now state) ≡ true ⌝ }
+    requires { ⌜ TakesCalls (now state) ⌝ }
     ensures { λ r. ⌜ leaving (nextTold r) (now (state .exit)) ≡ replied (now (state .entry)) (nextCall (stateOf (now (state .entry)))) ⌝ }
 {
     if row_count(state) == 0 {
@@ -58,7 +63,7 @@ fn next_in(state: &mut [u8]) -> NextAnswer
 // "The head record is sent and its length taken from the deficit": its cost, by 02 §1. Its place is worked out once: no step of a send moves it. The order is
 // then still to be worked out.
 pub fn send(state: &mut [u8], chosen: Chosen) -> NextAnswer
-    requires { ⌜ Chose (now state) chosen ⌝ }
+    requires { ⌜ Chose (now state) chosen × (stateOf (now state) .parked ≡ false) ⌝ }
     ensures { λ r. ⌜ Sends (now (state .entry)) chosen r (now (state .exit)) ⌝ }
 {
     let slot = chosen.slot;

@@ -27,7 +27,7 @@ pub fn picture() -> String {
         grouped(CELLS as u64),
         names(&records)
     );
-    let mut picture = Picture::new(&format!("The lent memory: {} bytes", grouped(LENGTH as u64)), &shows, 860.0);
+    let mut picture = Picture::new(&format!("The lent memory: {} bytes", grouped(LENGTH as u64)), &shows, 876.0);
     let subtitle = "Byte j of lane i of a field stands at start + lanes x j + i. The first bar has one scale, each group below its own.";
     picture.words(LEFT, (20.0, 50.0), subtitle);
     legend(&mut picture, 74.0);
@@ -36,8 +36,8 @@ pub fn picture() -> String {
     lines(&mut picture, 158.0, &head, &slots);
     single(&mut picture, 466.0, &numbers);
     let head = format!("Records: {} planes of {} bytes, one lane a cell of the run", count(&records), grouped(CELLS as u64));
-    lines(&mut picture, 656.0, &head, &records);
-    run(&mut picture, 820.0);
+    lines(&mut picture, 672.0, &head, &records);
+    run(&mut picture, 836.0);
     picture.finish()
 }
 

@@ -89,7 +89,7 @@ impl<E: Engine> Lent<E> {
     /// The bytes of an accepted call's answer.
     fn answer(&mut self, call: Call) -> Result<Vec<u8>, Refusal> {
         let mut answer = vec![0xa5; call.answer_length()];
-        let number = self.engine.call(&call, &mut self.memory, &mut answer);
+        let number = self.engine.call(&call, &mut self.memory, &mut call.image(), &mut answer);
         assert_eq!(self.engine.parted(), None);
         match number {
             0 => Ok(answer),

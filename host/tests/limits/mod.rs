@@ -53,8 +53,9 @@ pub fn look_at_damage(history: History, met: &mut impl FnMut(&'static str, bool)
                     look_at_memory(&memory, &changed, met);
                 }
                 changed.clear();
-                Model.call(&call, &mut memory, &mut vec![0; call.answer_length()]);
+                Model.call(&call, &mut memory, &mut call.image(), &mut vec![0; call.answer_length()]);
             }
+            Step::Lost { fill } => memory.fill(fill),
             Step::Mislent { .. } => {}
         }
     }

@@ -2,7 +2,7 @@
 
 use host::answers::Refusal;
 use host::engine::Engine;
-use host::layout;
+use host::layout::{self, MARK};
 use host::model::Model;
 use host::scheduler::Scheduler;
 use host::spread::term_of;
@@ -99,6 +99,14 @@ impl Wrong {
                 0
             }
             (Slip::EditionIgnored, _) => Model.start(state, 1),
+            (Slip::StartKeepsParked, _) => {
+                let mark = state.get(MARK.start).copied().filter(|&mark| mark == 1);
+                let number = Model.start(state, edition);
+                if let (Some(mark), 0) = (mark, number) {
+                    state[MARK.start] = mark;
+                }
+                number
+            }
             (Slip::EditionBeforeLength, edition) if !(1..=2).contains(&edition) => Refusal::BadEdition.number(),
             _ => Model.start(state, edition),
         }

@@ -1,14 +1,15 @@
 //! Wrong engines: the model engine with one slip each. The comparer must find every one.
 
 mod held;
+mod parked;
 mod pool;
 mod slip;
 
 use host::answers::{Opened, Refusal, Sent};
 use host::engine::Engine;
-use host::layout;
+use host::layout::{self, MARK};
 use host::model::{answer_bytes, apart, on};
-use host::scheduler::{Kind, Record, Scheduler, FRAMING, LAST_TICKET, LONGEST, MOST_WAITING};
+use host::scheduler::{Kind, Record, Scheduler, FRAMING, GOING, LAST_TICKET, LONGEST, MOST_WAITING};
 use host::spread;
 pub use slip::Slip;
 
@@ -33,6 +34,10 @@ impl Wrong {
         if self.is(Slip::WrongAnswerWritten) && answer.len() != length {
             answer.fill(0);
             return Refusal::Unsound.number();
+        }
+        if self.is(Slip::FourteenBeforeTen) && answer.len() == length && state.get(MARK.start) == Some(&1) {
+            answer.fill(0);
+            return Refusal::Parked.number();
         }
         if self.is(Slip::NothingUnchecked) && answer.len() == length {
             if let Some(scheduler) = layout::from_bytes(state).filter(Scheduler::sound) {
@@ -116,6 +121,9 @@ impl Wrong {
 
     /// Next with its steps as in the scheduler, and the slips between them.
     fn next_call(&self, scheduler: &mut Scheduler) -> Result<Sent, Refusal> {
+        if !self.is(Slip::NextUnparked) {
+            scheduler.going()?;
+        }
         if scheduler.rows.is_empty() {
             return Err(Refusal::NoneWaits);
         }
@@ -242,9 +250,20 @@ impl Engine for Wrong {
         self.around(state, answer, 16, |state, answer| {
             on(state, answer, 16, |scheduler| {
                 let ticket = self.ticket(scheduler, slot, ticket);
+                if self.is(Slip::AskUnparked) {
+                    return Scheduler { mark: GOING, ..scheduler.clone() }.ask_sound(slot, ticket);
+                }
                 scheduler.ask_sound(slot, ticket)
             })
         })
+    }
+
+    fn park(&mut self, state: &mut [u8], image: &mut [u8], answer: &mut [u8]) -> u32 {
+        self.around(state, answer, 4, |state, answer| self.park_call(state, image, answer))
+    }
+
+    fn unpark(&mut self, state: &mut [u8], image: &mut [u8]) -> u32 {
+        self.unpark_call(state, image)
     }
 
     fn lead(&mut self, w1: u32, v1: u32, w2: u32, v2: u32, answer: &mut [u8]) -> u32 {

@@ -5,7 +5,9 @@
 use std::fmt;
 
 use crate::answers::{Added, Closed, Opened, Sent, Standing, Told};
-use crate::entries::{uplink_ask, uplink_close, uplink_lead, uplink_next, uplink_open, uplink_put, uplink_start, uplink_term};
+use crate::entries::{
+    uplink_ask, uplink_close, uplink_lead, uplink_next, uplink_open, uplink_park, uplink_put, uplink_start, uplink_term, uplink_unpark,
+};
 use crate::refusal::Refusal;
 
 /// The rule that the order follows when a row leaves. A memory keeps it from one start to the next.
@@ -26,6 +28,9 @@ impl Memory {
     /// How many bytes it has.
     pub const LENGTH: usize = 3_968;
 
+    /// How many bytes the longest image has.
+    pub const IMAGE_LENGTH: usize = 3_924;
+
     /// The fresh state of an edition.
     pub fn new(edition: Edition) -> Memory {
         let mut memory = Memory([0; Memory::LENGTH]);
@@ -42,10 +47,15 @@ impl Memory {
         &self.0
     }
 
-    /// Whether the calls take this memory. Any other is refused with [`Refusal::Unsound`] until it is started.
+    /// Whether the memory is sound, parked or not. Any other is refused with [`Refusal::Unsound`] until it is started or an image is read into it.
     pub fn is_sound(&self) -> bool {
         // No slot is that high: a sound memory refuses it for that, after the check.
-        self.ask(u32::MAX, 0) == Err(Refusal::NoSlot)
+        self.ask(u32::MAX, 0) != Err(Refusal::Unsound)
+    }
+
+    /// Whether the memory is a parked state. It takes only [`Memory::start`] and [`Memory::unpark`].
+    pub fn is_parked(&self) -> bool {
+        self.ask(u32::MAX, 0) == Err(Refusal::Parked)
     }
 
     /// Writes the fresh state of an edition over whatever stands here.
@@ -100,6 +110,21 @@ impl Memory {
         let standing = if field(&answer, 0) == 2 { Standing::Closing } else { Standing::Open };
         let told = Told { standing, weight: field(&answer, 1), deficit: field(&answer, 2), waiting: field(&answer, 3) };
         accepted(number, told)
+    }
+
+    /// Parks the state: its image stands at the beginning of the buffer, whose other bytes stay, and its length is answered. No image is longer than
+    /// [`Memory::IMAGE_LENGTH`].
+    pub fn park(&mut self, image: &mut [u8]) -> Result<usize, Refusal> {
+        let mut answer = [0; 4];
+        let state = self.0.as_mut_ptr();
+        let number = unsafe { uplink_park(state, Memory::LENGTH, image.as_mut_ptr(), image.len(), answer.as_mut_ptr(), answer.len()) };
+        accepted(number, field(&answer, 0) as usize)
+    }
+
+    /// Reads an image, all of these bytes, over whatever stands here. A refusal keeps every byte.
+    pub fn unpark(&mut self, image: &[u8]) -> Result<(), Refusal> {
+        let number = unsafe { uplink_unpark(self.0.as_mut_ptr(), Memory::LENGTH, image.as_ptr(), image.len()) };
+        accepted(number, ())
     }
 }
 

@@ -32,11 +32,17 @@ pub enum Refusal {
     BadEdition = 12,
     /// Two records or more wait in the channel, and the 384 shared cells are taken: each channel has two of its own, and all share the rest.
     NoShared = 13,
+    /// The state is parked: it takes only a start and the reading of an image.
+    Parked = 14,
+    /// Not exactly the image of one sound state.
+    BadImage = 15,
+    /// The buffer is too short for the image.
+    ShortBuffer = 16,
 }
 
 impl Refusal {
     /// Every refusal, by its number.
-    pub const ALL: [Refusal; 13] = [
+    pub const ALL: [Refusal; 16] = [
         Refusal::NoSlot,
         Refusal::NotPresent,
         Refusal::AtClosing,
@@ -50,6 +56,9 @@ impl Refusal {
         Refusal::NoTerm,
         Refusal::BadEdition,
         Refusal::NoShared,
+        Refusal::Parked,
+        Refusal::BadImage,
+        Refusal::ShortBuffer,
     ];
 
     /// The number that the call gave.
@@ -80,6 +89,9 @@ impl fmt::Display for Refusal {
             Refusal::NoTerm => "no such term",
             Refusal::BadEdition => "no such edition",
             Refusal::NoShared => "no shared cell left",
+            Refusal::Parked => "state is parked",
+            Refusal::BadImage => "not the image of a state",
+            Refusal::ShortBuffer => "buffer too short for the image",
         })
     }
 }

@@ -1,4 +1,4 @@
--- The memory is sound and has rows, so the choice is the rules'; the page in its numbers is theirs, and there is room for it.
+-- The memory is sound, not parked, and has rows, so the choice is the rules'; the page in its numbers is theirs, and there is room for it.
 use Prim.Native.Nat.{_+_, _≤_}
 use native.Mathlib.Omega.{arith}
 use lib.ListN.{length}
@@ -18,12 +18,12 @@ use Rattle.page.proofs.page_of.Statement.{statement}
 use Rattle.page.proofs.page_of.Tie as tie
 
 load-scan-requires : tie.Need-load-scan-requires
-load-scan-requires c κs = memory-sound _ (c .before .before .pre .0) .size
+load-scan-requires c κs = memory-sound _ (c .before .before .pre .0 .0) .size
 
 chooses : (c : tie.After-load-scan) → Chooses (now (c .before .before .before .args .state)) (c .load-scan .result)
 chooses c =
     let start = c .before .before .before in
-    let m = memory-sound (now (start .args .state)) (start .pre .0) in
+    let m = memory-sound (now (start .args .state)) (start .pre .0 .0) in
     record { memory = m; filled = start .pre .1; scan-is = scan-loaded m (c .load-scan .ensures) }
 
 choose-requires : tie.Need-choose-requires
@@ -65,7 +65,7 @@ returns : tie.Need-returns
 returns c =
     let done = c .before .before .before .before .before .before in
     let made = done .before .before in
-    rw (page-same (chooses (made .before)) (made .choose .ensures)) at (ends (head-put done) (c .before .before .put-body .ensures))
+    rw (page-same (chooses (made .before)) (made .choose .ensures) (made .before .before .before .before .pre .0 .1)) at (ends (head-put done) (c .before .before .put-body .ensures))
 
 pub page-of-spec : {M : Type 1} → statement M
 page-of-spec =

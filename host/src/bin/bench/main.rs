@@ -1,6 +1,6 @@
 //! How long the exported calls take: `bench [--beside path/to/another/libdriver.a]`. Prints tables; docs/SPEED.md has the first, of edition 1, and its picture
-//! is drawn from there. The second is the same of edition 2, the third has single Nexts where edition 2 holds the order. The last has Next and Put of support's
-//! engine (include/plain.h) beside the adapter's.
+//! is drawn from there. The second is the same of edition 2, the third has single Nexts where edition 2 holds the order. The fourth has Next and Put of support's
+//! engine (include/plain.h) beside the adapter's, the last the two calls of parked queues beside a Next.
 //!
 //! All columns are measured in turn in the same run and are medians over many batches, so that their ratios mean something on any machine:
 //! - call: Next and Put in pairs, so that the fill stays the same, per call;
@@ -24,6 +24,7 @@ use std::process::ExitCode;
 use std::time::Instant;
 
 use host::check::record_by_record;
+use host::image::image_of;
 use host::layout;
 use host::linked::Entries;
 use host::pictures::speed::NAMES;
@@ -72,6 +73,7 @@ fn main() -> ExitCode {
     }
     print!("\n{}", held());
     print!("\n{}", by_hand());
+    print!("\n{}", parked());
     if archives.len() > 1 {
         println!("\nthe linked archive and the one beside it, and the linked one's time divided by the other's");
         for (edition, lines) in &of_editions {
@@ -227,6 +229,28 @@ fn by_hand() -> String {
             }
         }
         line(format!("edition 2: {name}, {terms} terms"), times.map(|times| [median(times), None]));
+    }
+    text
+}
+
+/// A park, and the reading of its image, beside a Next of the same fill. On a full memory they have to take at most 6 and 12 times as long.
+fn parked() -> String {
+    let heads = ["channels x records", "image, bytes", "next", "park", "unpark", "park / next", "unpark / next"];
+    let mut text = format!("| {} |\n{}|\n", heads.join(" | "), "|---".repeat(heads.len()));
+    for (edition, &(channels, records)) in EDITIONS.into_iter().flat_map(|edition| FILLS[1..].iter().map(move |fill| (edition, fill))) {
+        let state = filled(edition, channels, records);
+        let bytes = layout::to_bytes(&state);
+        let mut sides = [(); 2].map(|_| Side::lent(OWN, &bytes).expect("the linked archive takes a sound memory"));
+        let mut times: [Vec<f64>; 2] = Default::default();
+        for _ in 0..BATCHES {
+            sides[0].measure_alone();
+            sides[1].parking().into_iter().zip(&mut times).for_each(|(time, times)| times.push(time));
+        }
+        let [sending, _] = sides;
+        let [_, next, _, _] = sending.times.map(median);
+        let [park, unpark] = times.map(median);
+        let cells = [shown(next, 0), shown(park, 0), shown(unpark, 0), ratio(park, next), ratio(unpark, next)];
+        let _ = writeln!(text, "| edition {edition}: {channels} x {records} | {} | {} |", image_of(&state).len(), cells.join(" | "));
     }
     text
 }

@@ -5,7 +5,8 @@ use std::time::Instant;
 
 use host::answers::{Fields, Sent};
 use host::engine::Engine;
-use host::layout::{CELLS, EDITION, LENGTH, LENGTHS};
+use host::image::LONGEST_IMAGE;
+use host::layout::{CELLS, EDITION, LENGTH, LENGTHS, MARK};
 use host::linked::{Entries, LINKED, PLAIN};
 use host::model::answer_fields;
 
@@ -107,6 +108,19 @@ impl Side {
         }
         self.times[1].push(nexts as f64 / TIMES as f64);
         self.times[3].push(puts as f64 / TIMES as f64);
+    }
+
+    /// Nanoseconds of a park, and of the reading of its image over the parked memory.
+    pub fn parking(&mut self) -> [f64; 2] {
+        let (mut image, mut answer) = ([0; LONGEST_IMAGE], [0; 4]);
+        let park = batch(1, || {
+            // The mark alone was changed.
+            self.memory[MARK.start] = 0;
+            assert_eq!(black_box(self.entries.park(&mut self.memory, &mut image, &mut answer)), 0);
+        });
+        let length = u32::from_le_bytes(answer) as usize;
+        let unpark = batch(1, || assert_eq!(black_box(self.entries.unpark(&mut self.memory, &mut image[..length])), 0));
+        [park, unpark]
     }
 
     fn refused(&mut self) {

@@ -9,24 +9,27 @@ use Rattle.plain.proofs.next.next_in.Statement.{statement}
 use Rattle.plain.proofs.next.next_in.Tie as tie
 
 row-count-requires : tie.Need-row-count-requires
-row-count-requires c κs = memory-sound _ (c .before .before .pre) .size
+row-count-requires c κs = memory-sound _ (c .before .before .pre .0) .size
 
 same-length : tie.Need-same-length
 same-length c = search needs
 
 returns : tie.Need-returns
 returns c =
-    let b = now (c .before .before .before .before .args .state) in
-    ap (replied b) (sym (no-rows b (sym (c .before .row-count .ensures .0) ∙ c .if1 .taken)))
+    let s = c .before .before .before .before in
+    let b = now (s .args .state) in
+    ap (replied b) (sym (no-rows b (s .pre .1) (sym (c .before .row-count .ensures .0) ∙ c .if1 .taken)))
 
 load-scan-requires : tie.Need-load-scan-requires
-load-scan-requires c κs = memory-sound _ (c .before .before .before .before .before .pre) .size
+load-scan-requires c κs = memory-sound _ (c .before .before .before .before .before .pre .0) .size
 
 choose-requires : tie.Need-choose-requires
-choose-requires c κs = chooses _ (c .before .before .before .before .before .before .before .pre) (c .before .before .before .before .row-count .ensures .0) (c .before .before .before .if1 .left) (c .before .load-scan .ensures)
+choose-requires c κs = chooses _ (c .before .before .before .before .before .before .before .pre .0) (c .before .before .before .before .row-count .ensures .0) (c .before .before .before .if1 .left) (c .before .load-scan .ensures)
 
 send-requires : tie.Need-send-requires
-send-requires c κs = chose _ (c .before .before .before .before .before .before .before .before .before .pre) (c .before .before .before .before .before .before .row-count .ensures .0) (c .before .before .before .before .before .if1 .left) (c .before .choose .ensures)
+send-requires c κs =
+    let s = c .before .before .before .before .before .before .before .before .before in
+    (chose _ (s .pre .0) (c .before .before .before .before .before .before .row-count .ensures .0) (c .before .before .before .before .before .if1 .left) (c .before .choose .ensures), s .pre .1)
 
 order-again-requires : tie.Need-order-again-requires
 order-again-requires c κs =

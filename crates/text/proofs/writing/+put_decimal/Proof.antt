@@ -4,9 +4,9 @@ use mathlib.Core.List.{List, [], _∷_}
 use native.Mathlib.Omega.{arith}
 use borrow.Author.Needs.{needs}
 use Rattle.text.specs.Digits.{digits}
-use Rattle.text.specs.Writing.{written}
+use Rattle.octets.specs.Writing.{written}
 use Rattle.text.proofs.DigitLaws.{digits-one, digits-more, digits-length-one, digits-length-more}
-use Rattle.text.proofs.WritingLaws.{written-next}
+use Rattle.octets.proofs.WritingLaws.{written-next}
 use Prim.Native.Nat.{ℕ, _+_, _/_, _%_, _<_}
 use borrow.Fn.Kinds.{In}
 use borrow.Fn.PlainCycle.{Measures, is, falls, and}

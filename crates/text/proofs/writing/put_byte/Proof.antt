@@ -1,6 +1,6 @@
 -- One byte set is one byte written.
 use mathlib.Core.Path.{refl}
-use Rattle.text.proofs.WritingLaws.{written-byte}
+use Rattle.octets.proofs.WritingLaws.{written-byte}
 use borrow.Author.Needs.{needs}
 use Rattle.text.proofs.writing.put_byte.Statement.{statement}
 use Rattle.text.proofs.writing.put_byte.Tie as tie

@@ -7,8 +7,8 @@ use native.Mathlib.Omega.{arith}
 use lib.ListN.{length, getD, take}
 use lib.Seq.{length-take-le, take-all, take-suc}
 use borrow.Author.Needs.{needs}
-use Rattle.text.specs.Writing.{written}
-use Rattle.text.proofs.WritingLaws.{written-none, written-next, place-next}
+use Rattle.octets.specs.Writing.{written}
+use Rattle.octets.proofs.WritingLaws.{written-none, written-next, place-next}
 use Rattle.text.proofs.writing.put_bytes.Statement.{statement}
 use Rattle.text.proofs.writing.put_bytes.Tie as tie
 

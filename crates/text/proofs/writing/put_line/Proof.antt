@@ -4,7 +4,7 @@ use mathlib.Core.List.{[], _∷_}
 use native.Mathlib.Omega.{arith}
 use lib.ListN.{length-append}
 use Rattle.text.specs.Commands.{spaced}
-use Rattle.text.proofs.WritingLaws.{written-next, place-next}
+use Rattle.octets.proofs.WritingLaws.{written-next, place-next}
 use borrow.Author.Needs.{needs}
 use Rattle.text.proofs.writing.put_line.Statement.{statement}
 use Rattle.text.proofs.writing.put_line.Tie as tie

@@ -8,9 +8,9 @@ use lib.Seq.{take-all}
 use borrow.Author.Needs.{needs}
 use Rattle.text.specs.Digits.{digits}
 use Rattle.text.specs.Commands.{spaced}
-use Rattle.text.specs.Writing.{written}
+use Rattle.octets.specs.Writing.{written}
 use Rattle.text.proofs.SpacedLaws.{spaced-next, spaced-room}
-use Rattle.text.proofs.WritingLaws.{written-none, written-next, place-next}
+use Rattle.octets.proofs.WritingLaws.{written-none, written-next, place-next}
 use Rattle.text.proofs.writing.put_numbers.Statement.{statement}
 use Rattle.text.proofs.writing.put_numbers.Tie as tie
 

@@ -3,7 +3,7 @@ use mathlib.Core.Path.{_∙_}
 use mathlib.Core.List.{[], _∷_}
 use native.Mathlib.Omega.{arith}
 use Rattle.text.specs.Digits.{digits}
-use Rattle.text.proofs.WritingLaws.{written-next}
+use Rattle.octets.proofs.WritingLaws.{written-next}
 use borrow.Author.Needs.{needs}
 use Rattle.text.proofs.writing.put_spaced.Statement.{statement}
 use Rattle.text.proofs.writing.put_spaced.Tie as tie

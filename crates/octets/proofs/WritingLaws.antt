@@ -1,5 +1,5 @@
 -- Bytes written one after the other are written together.
-use mathlib.Core.Path.{_≡_, sym, ap, _∙_}
+use mathlib.Core.Path.{_≡_, refl, sym, ap, _∙_}
 use mathlib.Core.List.{List, [], _∷_, _++_, append-assoc}
 use Prim.Native.Nat.{ℕ, _+_, _≤_, _<_}
 use native.Mathlib.Nat.{add-zero}
@@ -7,7 +7,7 @@ use native.Mathlib.Numerals.{add-one}
 use native.Mathlib.Omega.{arith}
 use lib.ListN.{length, take, drop, set, length-append, length-drop, take-append-drop}
 use lib.Seq.{length-take-le, take-at, drop-at, drop-drop, set-split}
-use Rattle.text.specs.Writing.{written}
+use Rattle.octets.specs.Writing.{written, Written}
 
 -- no byte
 pub written-none : (s : List ℕ) (at : ℕ) → written s at [] ≡ s
@@ -56,3 +56,24 @@ module _ (s : List ℕ) (at : ℕ) (a : List ℕ) where
 
   pub place-next : (b : List ℕ) (p : ℕ) → p ≡ at + length a → p + length b ≡ at + length (a ++ b)
   place-next b p q = omega (arith, length-append a b)
+
+-- ---- the same, with the place behind the bytes
+
+pub nothing-written : (s : List ℕ) (at : ℕ) → Written s at [] at s
+nothing-written s at = record { place = omega arith; buffer = sym (written-none s at) }
+
+pub byte-written : (s : List ℕ) (at b : ℕ) → at < length s → Written s at (b ∷ []) (at + 1) (set s at b)
+byte-written s at b h = record { place = refl; buffer = written-byte s at b h }
+
+-- one writing after another
+pub then-written : {s : List ℕ} {at : ℕ} {a : List ℕ} {p : ℕ} {o b : List ℕ} {q : ℕ} {o′ : List ℕ}
+    → Written s at a p o → at + length a + length b ≤ length s → Written o p b q o′ → Written s at (a ++ b) q o′
+then-written {s} {at} {a} {p} {o} {b} W h X =
+    record {
+      place = X .place ∙ place-next s at a b p (W .place);
+      buffer = X .buffer ∙ written-next s at a b o p (W .buffer) (W .place) h;
+    }
+
+-- the lent bytes keep their number
+pub kept-length : {s : List ℕ} {at : ℕ} {a : List ℕ} {p : ℕ} {o : List ℕ} → Written s at a p o → at + length a ≤ length s → length o ≡ length s
+kept-length {s} {at} {a} W h = ap length (W .buffer) ∙ length-written s at a h

@@ -1,0 +1,26 @@
+// The parked image of a state (document 02, §6): its writer and its reader.
+//
+// An image is parts side by side: a number each, in so many bytes. A version is a choice of widths, so one loop writes the parts of a head, of a slot's
+// entry and of a record in every version, and one loop reads them. specs/ says what an image is, and which state any bytes stand for; proofs/ shows that
+// reading what was written gives the same state, and that each sound state has one image.
+use answers::Refusal;
+
+pub mod parts; // parts.rt: numbers in bytes, put into a buffer at a place
+pub mod writer; // writer.rt: the image of a lent memory
+pub mod taking; // taking.rt: numbers in bytes, taken from a place of any bytes
+pub mod decode; // decode.rt: a memory built from an image
+pub mod reader; // reader.rt: the memory of an image
+
+// The bytes of a record.
+pub const RECORD_BYTES: usize = 6;
+
+// The image's length.
+pub enum ParkAnswer {
+    Parked(u32),
+    Refused(Refusal),
+}
+
+pub enum UnparkAnswer {
+    Read,
+    Refused(Refusal),
+}
