@@ -1,15 +1,16 @@
 -- Where the run of records ends while the slots are filled one after the other: behind the records of the last slot that has any.
-use Prim.Native.Nat.{ℕ, zero, suc, _+_, _*_, _≤_, _<_}
+use Prim.Native.Nat.{ℕ, zero, suc, _+_, _≤_, _<_}
 use mathlib.Core.Path.{_≡_, refl, sym, ap, _∙_}
 use mathlib.Core.List.{List, [], _∷_}
+use mathlib.Core.Logic.{⊎-elim}
 use native.Mathlib.Omega.{arith}
+use native.Mathlib.Nat.{eq-or-lt-of-le}
 use lib.ListN.{length, length-append, length-set}
 use lib.Seq.{getD-set-same, getD-set-other}
-use Rattle.octets.specs.Number.{Bytes}
 use Rattle.rules.specs.Numbers.{slots}
 use Rattle.rules.specs.State.{Record, Channel, State, blank, at}
 use Rattle.memory.specs.Names as the
-use Rattle.memory.specs.Layout.{runOf, place, bytesOf}
+use Rattle.memory.specs.Layout.{runOf, bytesOf}
 use Rattle.memory.specs.Reading.{firstAt}
 use Rattle.memory.specs.Edits.{withWaiting, queueNow}
 use Rattle.memory.specs.Fits.{Fits}
@@ -28,6 +29,14 @@ before-rest (c ∷ cs) zero h =
     let here : c .waiting ≡ [] = h 0 (omega arith) in
     rw here (before-rest cs 0 (λ j l. h (suc j) (omega arith)))
 before-rest (c ∷ cs) (suc k) h = omega (arith, length-append (c .waiting) (runOf cs), before-rest cs k (λ j l. h (suc j) (omega arith)))
+
+-- so where no slot from slot k on has records, the run ends before slot k, and that is read off the memory
+pub run-ends : {s : State} {m : List ℕ} (k : ℕ) → ((j : ℕ) → k ≤ j → at (s .channels) j .waiting ≡ []) → Fits s → m ≡ bytesOf s → firstAt m slots ≡ before (s .channels) k
+run-ends {s} k h F e = rw e (total-is F ∙ sym (before-rest (s .channels) k h))
+
+-- a slot that has none, and none behind it
+pub none-from : (s : State) (i : ℕ) → at (s .channels) i .waiting ≡ [] → NoneBehind s i → (j : ℕ) → i ≤ j → at (s .channels) j .waiting ≡ []
+none-from s i idle behind j l = ⊎-elim (λ (e : i ≡ j). rw (← e) idle) (λ (m : i < j). behind j (omega arith)) (eq-or-lt-of-le l)
 
 module _ (s : State) (i : ℕ) (xs : List Record) (l : i < length (s .channels)) (behind : NoneBehind s i) where
   abbrev now : List Channel
@@ -56,9 +65,3 @@ module _ (s : State) (i : ℕ) (xs : List Record) (l : i < length (s .channels))
     where
       size : length now ≡ length (s .channels)
       size = length-set (s .channels) i (withWaiting xs (at (s .channels) i))
-
--- the numbers of 64 bytes add up to little
-pub first-small : (b : List ℕ) (n : ℕ) → Bytes b → firstAt b n ≤ 255 * n
-unfolding firstAt
-first-small b zero h = omega arith
-first-small b (suc n) h = omega (arith, first-small b n h, h (place the.waiting + n))

@@ -8,17 +8,20 @@ use lib.Seq.{getD-set-other}
 use Rattle.rules.specs.Numbers.{slots}
 use Rattle.rules.specs.State.{Record, Channel, State, blank, at, withChannel, kindNumber}
 use Rattle.memory.specs.Layout.{width, bytesOf}
+use Rattle.memory.specs.Reading.{firstAt}
 use Rattle.memory.specs.Edits.{queueNow, withWaiting}
 use Rattle.memory.specs.Fits.{each-nil, SlotFits, Fits}
 use Rattle.memory.specs.Head.{headOf}
 use Rattle.memory.specs.declared.heads.Head.{Head}
 use Rattle.memory.proofs.Fitting.{kind-most, fits-channel, fewer}
+use Rattle.memory.proofs.RunLaws.{before-set}
 use Rattle.image.specs.Parts.{widths, laid, span, numbersIn}
 use Rattle.image.specs.Image.{recordsBytes, slotParts, entry}
 use Rattle.image.specs.Decoding.{Reached, NoneBehind}
 use Rattle.image.proofs.PartLaws.{noPart}
 use Rattle.image.proofs.RoundTrip.{wide-holds}
-use Rattle.image.proofs.RecordsDecode.{part-taken, parts-passed, channel-fits, within, queued-channel}
+use Rattle.image.proofs.RecordsDecode.{part-taken, parts-passed, channel-fits, within, queued-channel, place-read}
+use Rattle.image.proofs.RunEnd.{run-ends, none-from}
 
 -- ---- a slot's numbers
 
@@ -67,16 +70,16 @@ module _ (image m : List ℕ) (n : ℕ) (s : State) (slot v : ℕ) (here : slot 
         records = each-nil;
       }
 
-  pub slot-read : (numbers : List ℕ) (next count r : ℕ) (mid after : List ℕ) → numbers ≡ numbersIn (widths (slotParts v c)) (drop n image)
+  pub slot-read : (place : ℕ) → place ≡ firstAt m slots → (numbers : List ℕ) (next count r : ℕ) (mid after : List ℕ) → numbers ≡ numbersIn (widths (slotParts v c)) (drop n image)
       → next ≡ n + span (widths (slotParts v c))
       → ((t : State) (d : Channel) → SlotFits d → Fits t → m ≡ bytesOf t → getD numbers 1 0 ≡ kindNumber (d .kind) → getD numbers 2 0 ≡ d .ticket
       → getD numbers 3 0 ≡ d .weight → getD numbers 4 0 ≡ d .deficit → getD numbers 5 0 ≡ d .serial → d .waiting ≡ at (t .channels) slot .waiting
       → mid ≡ bytesOf (withChannel t slot d))
       → (getD numbers 6 0 < 256 → count ≡ getD numbers 6 0)
-      → ((t : State) (xs : List Record) (more : List ℕ) → Fits (queueNow t slot xs) → length xs ≡ count → NoneBehind t slot
+      → ((t : State) (xs : List Record) (more : List ℕ) → Fits (queueNow t slot xs) → length xs ≡ count → NoneBehind t slot → place ≡ firstAt mid slots
       → Reached image next (recordsBytes xs ++ more) mid (queueNow t slot []) → Reached image r more after (queueNow t slot xs))
       → Reached image r rest after (withChannel s slot c)
-  slot-read numbers next count r mid after e place stored low records =
+  slot-read place ends numbers next count r mid after e behind-them stored low records =
       let number : (k : ℕ) → getD numbers k 0 ≡ getD (numbersIn (widths (slotParts v c)) (drop n image)) k 0 = λ k. ap (λ (ns : List ℕ). getD ns k 0) e in
       let count-is : getD numbers 6 0 ≡ length (c .waiting) = number 6 ∙ taken 6 (omega arith) (omega (arith, C .few)) in
       let head : mid ≡ bytesOf (withChannel s slot (withWaiting [] c))
@@ -85,7 +88,7 @@ module _ (image m : List ℕ) (n : ℕ) (s : State) (slot v : ℕ) (here : slot 
       (sym idle) in
       let reached : Reached image next (recordsBytes (c .waiting) ++ rest) mid (queueNow (withChannel s slot c) slot [])
       = record {
-        ahead = rw place (parts-passed image n (slotParts v c) (recordsBytes (c .waiting) ++ rest) ahead);
+        ahead = rw behind-them (parts-passed image n (slotParts v c) (recordsBytes (c .waiting) ++ rest) ahead);
         memory = head ∙ ap bytesOf (sym (queued-channel s slot c [] inside));
         fits = rw (queued-channel s slot c [] inside) (fits-channel (R .fits) slot (withWaiting [] c) here empty-fits (fewer (R .fits) slot (withWaiting [] c) here (omega arith)));
       } in
@@ -93,4 +96,7 @@ module _ (image m : List ℕ) (n : ℕ) (s : State) (slot v : ℕ) (here : slot 
       = λ j l. ap (λ (d : Channel). d .waiting) (getD-set-other (s .channels) slot j c blank (λ e. omega arith)) ∙ behind j l in
       let size : length (c .waiting) ≡ count = sym (low (omega (arith, C .few)) ∙ count-is) in
       let whole : queueNow (withChannel s slot c) slot (c .waiting) ≡ withChannel s slot c = queued-channel s slot c (c .waiting) inside in
-      rw whole at (records (withChannel s slot c) (c .waiting) rest (rw whole F) size later reached)
+      let same : firstAt mid slots ≡ firstAt m slots
+      = place-read (withChannel s slot c) slot mid here later (reached .fits) (reached .memory) ∙ before-set (s .channels) slot c
+      ∙ sym (run-ends slot (none-from s slot idle behind) (R .fits) (R .memory)) in
+      rw whole at (records (withChannel s slot c) (c .waiting) rest (rw whole F) size later (ends ∙ sym same) reached)

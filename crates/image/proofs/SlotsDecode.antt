@@ -15,7 +15,12 @@ use Rattle.rules.specs.Numbers.{slots, shared}
 use Rattle.rules.specs.State.{Channel, State, blank, fresh, at, beyond, sharedUse, withChannel}
 use Rattle.rules.proofs.Pool.{shared-set, shared-append}
 use Rattle.memory.specs.Fits.{Fits}
+use Rattle.memory.specs.Layout.{bytesOf}
+use Rattle.memory.specs.Reading.{waitingAt, firstAt}
 use Rattle.memory.proofs.Fitting.{fits-channel}
+use Rattle.memory.proofs.Lanes.{waiting-is}
+use Rattle.memory.proofs.RunLaws.{before, before-suc, before-set}
+use Rattle.image.proofs.RunEnd.{run-ends}
 use Rattle.image.specs.Image.{entry, entries}
 use Rattle.image.specs.Decoding.{Reached, NoneBehind, withChannels, doneTo}
 
@@ -79,18 +84,37 @@ take-shared cs i =
     omega arith
 
 module _ (image memory : List ℕ) (next v i e : ℕ) (cs : List Channel) (F : Fits (withChannels (fresh e) cs)) where
-  pub slots-step : {r : ℕ} {after : List ℕ} → i < slots → Reached image next (entries v (drop i cs)) memory (withChannels (fresh e) (doneTo cs i))
-      → ((s : State) (c : Channel) (rest : List ℕ) → Fits (withChannel s i c) → at (s .channels) i .waiting ≡ [] → NoneBehind s i → Reached image next (entry v c ++ rest) memory s
+  pub slots-step : {r : ℕ} {after : List ℕ} (place : ℕ) → place ≡ firstAt memory slots → i < slots → Reached image next (entries v (drop i cs)) memory (withChannels (fresh e) (doneTo cs i))
+      → ((s : State) (c : Channel) (rest : List ℕ) → Fits (withChannel s i c) → at (s .channels) i .waiting ≡ [] → NoneBehind s i → place ≡ firstAt memory slots → Reached image next (entry v c ++ rest) memory s
       → Reached image r rest after (withChannel s i c))
       → Reached image r (entries v (drop (i + 1) cs)) after (withChannels (fresh e) (doneTo cs (i + 1)))
   unfolding entries doneTo
-  slots-step l R step =
+  slots-step place ends l R step =
       let first : drop i cs ≡ at cs i ∷ drop (suc i) cs = drop-cons cs i blank (omega (arith, F .size)) in
       let empty : at (doneTo cs i) i .waiting ≡ [] = ap (λ (c : Channel). c .waiting) (done-later cs i i (omega arith) l) in
       let behind : NoneBehind (withChannels (fresh e) (doneTo cs i)) i = λ j m. done-behind cs i j (omega arith) in
       let pool : sharedUse (doneTo cs (suc i)) ≤ shared = omega (arith, done-shared cs (suc i) l (F .size), take-shared cs (suc i), F .pool) in
       let fits : Fits (withChannel (withChannels (fresh e) (doneTo cs i)) i (at cs i)) = fits-channel (R .fits) i (at cs i) l (F .slot i) pool in
-      rw (add-one i) (step (withChannels (fresh e) (doneTo cs i)) (at cs i) (entries v (drop (suc i) cs)) fits empty behind (rw first at R))
+      rw (add-one i) (step (withChannels (fresh e) (doneTo cs i)) (at cs i) (entries v (drop (suc i) cs)) fits empty behind ends (rw first at R))
+
+  -- the run ends behind the records of the slot that was passed
+  pub slots-place : {n : ℕ} {rest after : List ℕ} → i < slots → Reached image next (entries v (drop i cs)) memory (withChannels (fresh e) (doneTo cs i))
+      → Reached image n rest after (withChannels (fresh e) (doneTo cs (i + 1))) → firstAt after slots ≡ firstAt memory slots + waitingAt after i
+  unfolding doneTo
+  slots-place {after = after} l R S =
+      let one : i + 1 ≡ suc i = omega arith in
+      let before-now : firstAt memory slots ≡ before (doneTo cs i) i = run-ends i (λ j m. done-behind cs i j m) (R .fits) (R .memory) in
+      let here : waitingAt after i ≡ length (at (doneTo cs (i + 1)) i .waiting) = rw (S .memory) (waiting-is (S .fits) i l) in
+      let now : firstAt after slots ≡ before (doneTo cs (i + 1)) (i + 1) = run-ends (i + 1) (λ j m. done-behind cs (i + 1) j m) (S .fits) (S .memory) in
+      let parts : before (doneTo cs (suc i)) (suc i) ≡ before (doneTo cs i) i + length (at (doneTo cs (suc i)) i .waiting)
+      = before-suc (doneTo cs (suc i)) i ∙ ap (λ (n : ℕ). n + length (at (doneTo cs (suc i)) i .waiting)) (before-set (doneTo cs i) i (at cs i)) in
+      now ∙ ap (λ (k : ℕ). before (doneTo cs k) k) one ∙ parts
+      ∙ ap (λ (n : ℕ). n + length (at (doneTo cs (suc i)) i .waiting)) (sym before-now)
+      ∙ ap (λ (n : ℕ). firstAt memory slots + n) (sym (here ∙ ap (λ (k : ℕ). length (at (doneTo cs k) i .waiting)) one))
+
+  pub slots-first : memory ≡ bytesOf (fresh e) → Fits (fresh e) → 0 ≡ firstAt memory slots
+  unfolding before fresh doneTo
+  slots-first m G = sym (run-ends {s = fresh e} 0 (λ j l. done-behind cs 0 j l) G m)
 
   pub slots-ended : i ≡ slots → Reached image next (entries v (drop i cs)) memory (withChannels (fresh e) (doneTo cs i))
       → Reached image next [] memory (withChannels (fresh e) cs)

@@ -16,7 +16,6 @@ use memory::point::Scan;
 use memory::point::store_order;
 use memory::point::store_scan;
 use memory::records::append_record;
-use memory::records::first_of;
 use memory::rows::join_row;
 use memory::rows::row_count;
 use rules::ROOM;
@@ -34,6 +33,7 @@ ghost use Rattle.rules.specs.State.{Record, Channel, State, fresh, at as slotAt
 ghost use Rattle.rules.specs.Facts.{Edition, Sound};
 ghost use Rattle.memory.specs.Names as the;
 ghost use Rattle.memory.specs.Layout.{width, bytesOf, memoryLength};
+ghost use Rattle.memory.specs.Reading.{firstAt};
 ghost use Rattle.memory.specs.Edits.{recordAdded, queueNow, withRows, rowJoined};
 ghost use Rattle.memory.specs.Fits.{SlotFits, Fits};
 ghost use Rattle.memory.specs.Records.{Ends};
@@ -62,14 +62,20 @@ fn read_record(memory: &mut [u8], image: &[u8], at: usize, slot: usize, place: u
     next
 }
 
-// The records of a slot that has none yet, and behind which none has.
-fn read_records(memory: &mut [u8], image: &[u8], at: usize, slot: usize, count: usize) -> usize
-    requires { ⌜ (length (now memory) ≡ memoryLength) × (slot < slots) × (count < 256) × (at + recordBytes * count ≤ farthest) ⌝ }
+// The records of a slot that has none yet, and behind which none has: the run ends at a place.
+fn read_records(
+    memory: &mut [u8],
+    image: &[u8],
+    at: usize,
+    slot: usize,
+    place: usize,
+    count: usize,
+) -> usize
+    requires { ⌜ (length (now memory) ≡ memoryLength) × (slot < slots) × (place ≤ farthest) × (count < 256) × (at + recordBytes * count ≤ farthest) ⌝ }
     ensures { λ r. ⌜ (r ≡ at + recordBytes * count) × ((s : State) (xs : List Record) (rest : List ℕ) → Fits (queueNow s slot xs) → length xs ≡ count → NoneBehind s slot
-        → Reached (now (image .entry)) at (recordsBytes xs ++ rest) (now (memory .entry)) (queueNow s slot [])
+        → place ≡ firstAt (now (memory .entry)) slots → Reached (now (image .entry)) at (recordsBytes xs ++ rest) (now (memory .entry)) (queueNow s slot [])
         → Reached (now (image .entry)) r rest (now (memory .exit)) (queueNow s slot xs)) ⌝ }
 {
-    let place = first_of(memory, SLOTS);
     let mut next = at;
     let mut i = 0;
     while i < count {
@@ -122,11 +128,18 @@ fn store_slot(
     );
 }
 
-// A slot's entry, for a slot that has no records yet.
-fn read_slot(memory: &mut [u8], image: &[u8], at: usize, slot: usize, version: usize) -> usize
-    requires { ⌜ (length (now memory) ≡ memoryLength) × (slot < slots) × (at + entryMost ≤ farthest) × (1 ≤ version) × (version ≤ newest) ⌝ }
+// A slot's entry, for a slot that has no records yet; the run ends at a place.
+fn read_slot(
+    memory: &mut [u8],
+    image: &[u8],
+    at: usize,
+    slot: usize,
+    place: usize,
+    version: usize,
+) -> usize
+    requires { ⌜ (length (now memory) ≡ memoryLength) × (slot < slots) × (at + entryMost ≤ farthest) × (place ≤ farthest) × (1 ≤ version) × (version ≤ newest) ⌝ }
     ensures { λ r. ⌜ (r ≤ at + entryMost) × ((s : State) (c : Channel) (rest : List ℕ) → Fits (withChannel s slot c) → slotAt (s .channels) slot .waiting ≡ [] → NoneBehind s slot
-        → Reached (now (image .entry)) at (entry version c ++ rest) (now (memory .entry)) s
+        → place ≡ firstAt (now (memory .entry)) slots → Reached (now (image .entry)) at (entry version c ++ rest) (now (memory .entry)) s
         → Reached (now (image .entry)) r rest (now (memory .exit)) (withChannel s slot c)) ⌝ }
 {
     let wide = 2 * version;
@@ -143,7 +156,7 @@ fn read_slot(memory: &mut [u8], image: &[u8], at: usize, slot: usize, version: u
         numbers[5],
     );
     let count = low_u8(numbers[6]);
-    read_records(memory, image, next, slot, count as usize)
+    read_records(memory, image, next, slot, place, count as usize)
 }
 
 // "then the 64 slots in turn", into a fresh memory.
@@ -154,9 +167,11 @@ fn read_slots(memory: &mut [u8], image: &[u8], at: usize, version: usize) -> usi
         → Reached (now (image .entry)) r [] (now (memory .exit)) (withChannels (fresh e) cs)) ⌝ }
 {
     let mut next = at;
+    let mut place = 0;
     let mut slot = 0;
     while slot < SLOTS {
-        next = read_slot(memory, image, next, slot, version);
+        next = read_slot(memory, image, next, slot, place, version);
+        place += waiting_of(memory, slot);
         slot += 1;
     }
     next

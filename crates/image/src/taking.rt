@@ -15,8 +15,21 @@ pub fn byte_at(image: &[u8], i: usize) -> u8
     0
 }
 
-// The number that so many bytes from a place on are, the highest first.
-pub fn take_number(image: &[u8], at: usize, width: usize) -> u64
+// The number that so many bytes from a place on are, the highest first: of bytes that are there, of any, and so that those that are there are not asked for one by one.
+fn number_within(image: &[u8], at: usize, width: usize) -> u64
+    requires { ⌜ (at + width ≤ length (now image)) × (width ≤ 8) ⌝ }
+    ensures { λ r. ⌜ r ≡ asNumber width (drop at (now (image .entry))) ⌝ }
+{
+    let mut number: u64 = 0;
+    let mut i = 0;
+    while i < width {
+        number = 256 * number + image[at + i] as u64;
+        i += 1;
+    }
+    number
+}
+
+fn number_beyond(image: &[u8], at: usize, width: usize) -> u64
     requires { ⌜ (at ≤ farthest) × (width ≤ 8) ⌝ }
     ensures { λ r. ⌜ r ≡ asNumber width (drop at (now (image .entry))) ⌝ }
 {
@@ -27,6 +40,16 @@ pub fn take_number(image: &[u8], at: usize, width: usize) -> u64
         i += 1;
     }
     number
+}
+
+pub fn take_number(image: &[u8], at: usize, width: usize) -> u64
+    requires { ⌜ (at ≤ farthest) × (width ≤ 8) ⌝ }
+    ensures { λ r. ⌜ r ≡ asNumber width (drop at (now (image .entry))) ⌝ }
+{
+    if at + width <= image.len() {
+        return number_within(image, at, width);
+    }
+    number_beyond(image, at, width)
 }
 
 // The numbers of parts of these widths. Answers the place behind them.

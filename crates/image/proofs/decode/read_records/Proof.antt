@@ -7,38 +7,32 @@ use borrow.Author.Needs.{needs}
 use lib.ListN.{length, take, drop}
 use Rattle.rules.specs.State.{Record, State}
 use Rattle.rules.specs.Numbers.{slots}
+use Rattle.memory.specs.Reading.{firstAt}
 use Rattle.memory.specs.Edits.{queueNow}
 use Rattle.memory.specs.Fits.{Fits}
 use Rattle.image.specs.Image.{recordBytes, recordsBytes}
 use Rattle.image.specs.Decoding.{Reached, NoneBehind}
-use Rattle.image.proofs.RunEnd.{first-small}
 use Rattle.image.proofs.RecordsDecode.{place-read, records-step, records-ended}
 use Rattle.image.proofs.decode.read_records.Statement.{statement}
 use Rattle.image.proofs.decode.read_records.Tie as tie
 
 abbrev Inv-loop : tie.InvT-loop
-Inv-loop memory₀ image at slot count place next₀ i₀ memory next i =
+Inv-loop memory₀ image at slot place count next₀ i₀ memory next i =
     (i ≤ count)
     × (length memory ≡ length memory₀)
     × (next ≡ at + recordBytes * i)
     × ((s : State) (xs : List Record) (rest : List ℕ) → Fits (queueNow s slot xs) → length xs ≡ count → NoneBehind s slot
-    → Reached image at (recordsBytes xs ++ rest) memory₀ (queueNow s slot [])
+    → place ≡ firstAt memory₀ slots → Reached image at (recordsBytes xs ++ rest) memory₀ (queueNow s slot [])
     → Reached image next (recordsBytes (drop i xs) ++ rest) memory (queueNow s slot (take i xs)))
 
 abbrev μ-loop : tie.MeasureT-loop
-μ-loop memory₀ image at slot count place next₀ i₀ memory next i = count - i
-
-first-of-requires : tie.Need-first-of-requires Inv-loop μ-loop
-first-of-requires c κs = search needs
+μ-loop memory₀ image at slot place count next₀ i₀ memory next i = count - i
 
 loop-holds : tie.Need-loop-holds Inv-loop μ-loop
-loop-holds c = (omega arith, refl, omega arith, λ s xs rest F size behind R. R)
+loop-holds c = (omega arith, refl, omega arith, λ s xs rest F size behind ends R. R)
 
 add-read-record : tie.Need-add-read-record Inv-loop μ-loop
-add-read-record c =
-    let start = c .before .before .before .before .before .before .before in
-    let first = c .before .before .before .first-of in
-    omega (arith, first .ensures, first-small (start .args .memory .now) slots (λ n. c .before .before .before .before .before .before .slice-known .given n .fits))
+add-read-record c = search needs
 
 read-record-requires : tie.Need-read-record-requires Inv-loop μ-loop
 read-record-requires c κs = search needs
@@ -51,19 +45,18 @@ loop-less c = search needs
 
 loop-again : tie.Need-loop-again Inv-loop μ-loop
 loop-again c =
-    let start = c .before .before .before .before .before .before .before .before .before .before in
+    let start = c .before .before .before .before .before .before .before .before in
     let a = start .args in
     let l = c .before .before .before .before .before .loop in
     let more = c .before .before .before .before .loop-test .taken in
-    let first = c .before .before .before .before .before .before .first-of in
     let one = c .before .before .read-record in (
       omega arith,
       one .kept .0 ∙ l .inv .1,
       omega (arith, one .ensures .0, l .inv .2),
-      λ s xs rest F size behind R.
-          let place = first .ensures ∙ place-read s (a .slot) (a .memory .now) (start .pre .1) behind (R .fits) (R .memory) in
-          records-step (a .image .now) (l .memory) (l .next) s (a .slot) (start .pre .1) xs rest F (l .i) (omega arith) (l .inv .3 s xs rest F size behind R) behind
-          (first .result + l .i) (ap (λ (n : ℕ). n + l .i) place) (one .ensures .1),
+      λ s xs rest F size behind ends R.
+          let place = ends ∙ place-read s (a .slot) (a .memory .now) (start .pre .1) behind (R .fits) (R .memory) in
+          records-step (a .image .now) (l .memory) (l .next) s (a .slot) (start .pre .1) xs rest F (l .i) (omega arith) (l .inv .3 s xs rest F size behind ends R) behind
+          (a .place + l .i) (ap (λ (n : ℕ). n + l .i) place) (one .ensures .1),
     )
 
 same-length : tie.Need-same-length Inv-loop μ-loop
@@ -71,10 +64,10 @@ same-length c = search needs
 
 returns : tie.Need-returns Inv-loop μ-loop
 returns c =
-    let a = c .before .before .before .before .before .before .args in
+    let a = c .before .before .before .before .args in
     let l = c .before .loop in (
       omega (arith, l .inv .2),
-      λ s xs rest F size behind R. records-ended s (a .slot) xs (l .i) (omega arith) rest (l .inv .3 s xs rest F size behind R),
+      λ s xs rest F size behind ends R. records-ended s (a .slot) xs (l .i) (omega arith) rest (l .inv .3 s xs rest F size behind ends R),
     )
 
 pub read-records-spec : {M : Type 1} → statement M
@@ -83,7 +76,6 @@ read-records-spec =
     (tie.spec
     Inv-loop
     μ-loop
-    first-of-requires
     loop-holds
     add-read-record
     read-record-requires

@@ -23,7 +23,7 @@ slice-aggregate-take-parts-2 c = search needs
 take-parts-requires : tie.Need-take-parts-requires
 take-parts-requires c κs =
     let start = c .before .before .before .before in
-    (refl, slot-narrow (start .args .version) (start .pre .4), omega (arith, start .pre .2, start .pre .4))
+    (refl, slot-narrow (start .args .version) (start .pre .5), omega (arith, start .pre .2, start .pre .5))
 
 array-read-store-slot : tie.Need-array-read-store-slot
 array-read-store-slot c = search needs
@@ -66,9 +66,9 @@ returns c =
     let head = c .before .before .before .before .before .before .before .store-slot in
     let count = c .before .before .before .before .low-u8 in
     let records = c .before .before .read-records in (
-      omega (arith, records .ensures .0, parts .ensures .0, start .pre .4),
-      λ s d rest F idle behind R.
-          slot-read (now (a .image)) (now (a .memory)) (a .at) s (a .slot) (a .version) (start .pre .1) (start .pre .3) d rest F idle behind R _ (parts .result) (count .result) (records .result)
+      omega (arith, records .ensures .0, parts .ensures .0, start .pre .5),
+      λ s d rest F idle behind ends R.
+          slot-read (now (a .image)) (now (a .memory)) (a .at) s (a .slot) (a .version) (start .pre .1) (start .pre .4) d rest F idle behind R (a .place) ends _ (parts .result) (count .result) (records .result)
           (head .last .0) (records .last .0) (parts .ensures .1) (parts .ensures .0) (head .ensures) (count .ensures) (records .ensures .1),
     )
 

@@ -6,8 +6,8 @@ use borrow.Author.Needs.{needs}
 use lib.ListN.{drop}
 use Rattle.image.specs.Parts.{asNumber}
 use Rattle.image.proofs.TakingLaws.{number-more, room-more}
-use Rattle.image.proofs.taking.take_number.Statement.{statement}
-use Rattle.image.proofs.taking.take_number.Tie as tie
+use Rattle.image.proofs.taking.number_beyond.Statement.{statement}
+use Rattle.image.proofs.taking.number_beyond.Tie as tie
 
 abbrev Inv-loop : tie.InvT-loop
 Inv-loop image at width number₀ i₀ number i = (i ≤ width) × (number < 256 ^ i) × (number ≡ asNumber i (drop at image))
@@ -59,8 +59,8 @@ returns c =
     let e : l .i ≡ c .before .before .before .args .width = omega arith in
     rw e at (l .inv .2)
 
-pub take-number-spec : {M : Type 1} → statement M
-take-number-spec =
+pub number-beyond-spec : {M : Type 1} → statement M
+number-beyond-spec =
     tie.close
     (tie.spec
     Inv-loop
