@@ -212,8 +212,7 @@ fn every_byte_of_an_image() {
     let mut made = 0;
     for state in [Scheduler::fresh(1), states::rich(2), states::rich(1), pool::full(2)] {
         let image = image_of(&state);
-        let mut images: Vec<Vec<u8>> =
-            (0..image.len()).step_by(if image.len() > 2_000 { 7 } else { 1 }).map(|end| image[..end].to_vec()).collect();
+        let mut images: Vec<Vec<u8>> = (0..image.len()).map(|end| image[..end].to_vec()).collect();
         images.extend((0..=255).map(|byte| [&image[..], &[byte]].concat()));
         for place in 0..image.len() {
             let small = place < 20 + state.rows.len();
