@@ -12,7 +12,6 @@ refusalTold refusal.Full = answer.full
 refusalTold refusal.BadWeight = answer.badWeight
 refusalTold refusal.NoneFree = answer.noneFree
 refusalTold refusal.NoneWaits = answer.noneWaits
-refusalTold refusal.NoRow = answer.noRow
 refusalTold refusal.Unsound = answer.unsound
 refusalTold refusal.NoTerm = answer.noTerm
 refusalTold refusal.BadEdition = answer.badEdition

@@ -16,7 +16,6 @@ pub enum Refusal {
     BadWeight,
     NoneFree,
     NoneWaits,
-    NoRow,
     Unsound,
     NoTerm,
     BadEdition,
@@ -26,7 +25,7 @@ pub enum Refusal {
     ShortBuffer,
 }
 
-// The number of a refusal, by document 01's table.
+// The number of a refusal, by document 01's table. (9 is not used: 02 §8.)
 pub fn number_of(why: Refusal) -> u32
     ensures { λ r. ⌜ r ≡ numberOf (refusalTold why) ⌝ }
 {
@@ -39,7 +38,6 @@ pub fn number_of(why: Refusal) -> u32
         Refusal::BadWeight => 6,
         Refusal::NoneFree => 7,
         Refusal::NoneWaits => 8,
-        Refusal::NoRow => 9,
         Refusal::Unsound => 10,
         Refusal::NoTerm => 11,
         Refusal::BadEdition => 12,

@@ -143,9 +143,9 @@ text-bar k p c rows f sends v =
     rw (append-assoc (firstLine k p (termShown p) c) (columnsLine k c) lines)
     (one-more (first-bar k p (termShown p) c) (one-more (columns-bar k c) (rows-bar _ rows (λ i. row-bar i (f i) k sends v))))
 
-by-bar : (s : State) (x : Answer Chosen) → BarLines (pageBy s x)
-by-bar s (refused n) = no-more
-by-bar s (given x) =
+by-bar : (s : State) (x : Option Chosen) → BarLines (pageBy s x)
+by-bar s none = no-more
+by-bar s (some x) =
     text-bar (x .state .order) (x .state .scan .position) (scanned s x) (s .rows) (weights (s .channels)) (x .slot)
     (λ i. eqb (occurs i (x .state .scan .toVisit)) 1)
 

@@ -2,6 +2,7 @@
 use mathlib.Core.Path.{_≡_, refl, sym, ap, _∙_}
 use mathlib.Core.Bool.{Bool, true, false, cond, _||_}
 use mathlib.Core.List.{List, [], _∷_, _++_}
+use mathlib.Core.Option.{some, Option·map}
 use Prim.Native.Nat.{ℕ, zero, suc, _+_, _*_, _-_, _^_, _≤_, _<_}
 use native.Mathlib.Omega.{arith}
 use lib.Dec.{eqb}
@@ -14,8 +15,6 @@ use Rattle.bits.proofs.MaskLaws.{mask-occurs}
 use Rattle.lists.specs.Slots.{occurs, Once}
 use Rattle.lists.specs.Tests.{isEmpty}
 use Rattle.lists.proofs.OnceLaws.{once-part}
-use Rattle.answers.specs.Answer.{given, mapped}
-use Rattle.answers.proofs.Answers.{given-inj}
 use Rattle.spread.specs.Limits.{columns}
 use Rattle.spread.specs.Sequence.{term}
 use Rattle.spread.specs.Visits.{columnAt}
@@ -24,6 +23,7 @@ use Rattle.rules.specs.State.{State, weights, roundOver}
 use Rattle.rules.specs.Next as rules
 use Rattle.rules.specs.Next.{nextPosition, termTaken, endingRound}
 use Rattle.rules.specs.Facts.{Stage, SoundTo}
+use Rattle.rules.proofs.Cases.{some-inj}
 use Rattle.rules.proofs.Rows.{order-most, row-lt}
 use Rattle.rules.proofs.RoundEnd.{over-facts, ending-not, ending-over}
 use Rattle.rules.proofs.Choosing as choosing
@@ -52,10 +52,10 @@ next-some k p = go (eqb (p + 1) (2 ^ k))
 
 -- a round that ends has none left to visit
 ending-some : (s : State) → (endingRound s .scan .toVisit ≡ [] → ⊥) → 0 < s .scan .position → 0 < endingRound s .scan .position
-ending-some s some h = go (roundOver s) refl
+ending-some s listed h = go (roundOver s) refl
   where
     go : (b : Bool) → roundOver s ≡ b → 0 < endingRound s .scan .position
-    go true e = absurd (some (ap (λ (t : State). t .scan .toVisit) (ending-over s e) ∙ over-facts s e .none-remain))
+    go true e = absurd (listed (ap (λ (t : State). t .scan .toVisit) (ending-over s e) ∙ over-facts s e .none-remain))
     go false e = rw (ending-not s e) h
 
 scans-some : {x : rules.Chosen} {n : ℕ} {s : State} → Scans x n s → ((n ≡ 0 → ⊥) → (s .scan .toVisit ≡ [] → ⊥) → 0 < s .scan .position)
@@ -64,11 +64,11 @@ scans-some {x} {n} {s} (at-once i rest q g) h t =
     let there : s .scan .toVisit ≡ [] → ⊥ = λ e. let z : _≡_ {A = ℕ} 0 1 = cc in omega arith in
     rw g (h (λ e. t (ap (λ (y : rules.Chosen). y .terms) g ∙ e)) there)
 scans-some {x} {n} {s} (one-more q later) h t =
-    scans-some later (λ m some. ending-some (termTaken s) some (next-some (s .order) (s .scan .position))) t
+    scans-some later (λ m listed. ending-some (termTaken s) listed (next-some (s .order) (s .scan .position))) t
 
 chosen-some : {x : rules.Chosen} {s : State} → choosing.Chooses x s → (x .terms ≡ 0 → ⊥) → 0 < x .state .scan .position
 chosen-some {x} {s} (going-on v g) t = absurd (t (ap (λ (y : rules.Chosen). y .terms) g))
-chosen-some {x} {s} (starting v way) t = scans-some way (λ n some. absurd (n refl)) t
+chosen-some {x} {s} (starting v way) t = scans-some way (λ n listed. absurd (n refl)) t
 
 -- ---- masks and lists
 
@@ -82,7 +82,7 @@ scanned-same s y = rw (none-listed (s .scan .toVisit))
 
 -- a slot is still to visit where the mask has it
 page-made : (s : State) (y : rules.Chosen) → Once (y .state .scan .toVisit)
-    → pageIn (weights (s .channels)) (s .rows) (inNumbers (s .scan)) (inChosen y) ≡ pageBy s (given y)
+    → pageIn (weights (s .channels)) (s .rows) (inNumbers (s .scan)) (inChosen y) ≡ pageBy s (some y)
 page-made s y once =
     let f = weights (s .channels) in
     let k = y .state .order in
@@ -100,7 +100,7 @@ page-made s y once =
     line-same f k j i e = ap (λ (m : ℕ). rowLine i (f i) (cellsOf k (f i)) (cond (eqb i j) visitWord (cond (eqb m 1) toVisitWord []))) e
 
 -- the page of a state with rows that isn't parked is that of its choice
-page-by : (s : State) (y : rules.Chosen) → s .parked ≡ false → isEmpty (s .rows) ≡ false → chosenOf s ≡ given y → pageOf s ≡ pageBy s (given y)
+page-by : (s : State) (y : rules.Chosen) → s .parked ≡ false → isEmpty (s .rows) ≡ false → chosenOf s ≡ some y → pageOf s ≡ pageBy s (some y)
 unfolding pageOf
 page-by s y unmarked filled e =
     ap (λ (m : Bool). cond (m || isEmpty (s .rows)) [] (pageBy s (chosenOf s))) unmarked
@@ -127,21 +127,21 @@ scanned-most p x k c = go (eqb (x .terms) 0) (eqb (p .mask) 0)
 
 -- ---- the choice x, made on the sound memory b with rows, from the numbers p of its scan point
 
-module _ {b : List ℕ} {p : Scan} {x : Chosen} (C : Chooses b p) (e : given x ≡ mapped inChosen (chosenOf (stateOf b))) where
+module _ {b : List ℕ} {p : Scan} {x : Chosen} (C : Chooses b p) (e : some x ≡ Option·map inChosen (chosenOf (stateOf b))) where
   abbrev here : State
   here = stateOf b
 
   -- the rules' choice, and what is true of it
   record Made : Type 0 where
     made : rules.Chosen
-    chosen : chosenOf here ≡ given made
+    chosen : chosenOf here ≡ some made
     way : choosing.Chooses made here
     numbers : x ≡ inChosen made
 
   was-made : Made
   was-made =
       let (y, g, way, few) = choosing.choosing (C .memory .state) (C .filled) in
-      record { made = y; chosen = g; way = way; numbers = given-inj (e ∙ ap (mapped inChosen) g) }
+      record { made = y; chosen = g; way = way; numbers = some-inj (e ∙ ap (Option·map inChosen) g) }
 
   pub taken : Taken x
   taken =

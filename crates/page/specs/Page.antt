@@ -13,7 +13,6 @@ use lib.Dec.{eqb}
 use Rattle.bits.specs.Bit.{bit}
 use Rattle.lists.specs.Slots.{occurs}
 use Rattle.lists.specs.Tests.{isEmpty}
-use Rattle.answers.specs.Answer.{Answer, refused, given}
 use Rattle.spread.specs.Limits.{columns}
 use Rattle.spread.specs.Sequence.{term}
 use Rattle.spread.specs.Visits.{columnAt}
@@ -116,9 +115,9 @@ scanned s x =
     (suc (columnAt (x .state .order) (x .state .scan .position)))
 
 -- the page of the choice that Next makes
-abbrev pub pageBy : State → Answer Chosen → List ℕ
-pageBy s (refused n) = []
-pageBy s (given x) =
+abbrev pub pageBy : State → Option Chosen → List ℕ
+pageBy s none = []
+pageBy s (some x) =
     pageText (x .state .order) (x .state .scan .position) (scanned s x) (s .rows) (weights (s .channels)) (x .slot)
     (λ i. eqb (occurs i (x .state .scan .toVisit)) 1)
 

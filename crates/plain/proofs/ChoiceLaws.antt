@@ -2,9 +2,8 @@
 use Prim.Native.Nat.{ℕ}
 use mathlib.Core.Path.{_≡_, refl, sym, ap, _∙_, subst}
 use mathlib.Core.List.{List, []}
-use mathlib.Core.Option.{Option}
+use mathlib.Core.Option.{Option, some, Option·map}
 use Rattle.bits.proofs.MaskLaws.{keep-mask}
-use Rattle.answers.specs.Answer.{given, mapped}
 use Rattle.rules.specs.Next.{chooseBy, termsMost}
 use Rattle.memory.specs.declared.point.Scan.{Scan}
 use Rattle.memory.specs.Reading.{inMask, stateOf}
@@ -25,11 +24,11 @@ module _ {b : List ℕ} {p : Scan} (C : Chooses b p) {k : ℕ} (o : k ≡ stateO
   list-is = let F = sound-fits (C .memory .state) in e ∙ rw (C .scan-is) (keep-mask (F .part) (F .once))
 
   -- a row has a mark: no term is taken
-  pub first-chosen : {y : Chosen} → Starts here l y → given y ≡ mapped inChosen (chosenOf (stateOf b))
+  pub first-chosen : {y : Chosen} → Starts here l y → some y ≡ Option·map inChosen (chosenOf (stateOf b))
   first-chosen {y} w =
       scan-starts (stateOf b) here o (ap (λ (x : Scan). x .position) (C .scan-is)) (ap (λ (x : Scan). x .column) (C .scan-is)) (termsMost (stateOf b))
       (subst (λ (xs : List ℕ). Starts here xs y) list-is w)
-      ∙ ap (λ (v : Option ℕ). mapped inChosen (chooseBy v (stateOf b))) (sym (no-visit-open C o closed))
+      ∙ ap (λ (v : Option ℕ). Option·map inChosen (chooseBy v (stateOf b))) (sym (no-visit-open C o closed))
 
   -- none has: terms are taken
   pub none-begins : l ≡ [] → Begins b here

@@ -1,17 +1,15 @@
--- The terms one after the other are the rules' own scan: before each and after each, what it still has to do is the whole choice. It is given, so a column with a
+-- The terms one after the other are the rules' own scan: before each and after each, what it still has to do is the whole choice. A slot is chosen, so a column with a
 -- row comes before the terms run out.
 use Prim.Native.Nat.{ℕ, zero, suc, _+_, _-_, _^_, _≤_, _<_}
 use mathlib.Core.Path.{_≡_, refl, sym, ap, ap₂, _∙_, subst}
 use mathlib.Core.Bool.{Bool, true, false, cond, _&&_, true≢false}
 use mathlib.Core.List.{List, [], _∷_}
-use mathlib.Core.Option.{none}
+use mathlib.Core.Option.{Option, none, some, Option·map}
 use native.Mathlib.Numerals.{add-one}
 use native.Mathlib.Omega.{arith}
 use lib.Dec.{eqb}
 use lib.Pow.{pow-mono}
 use Rattle.lists.specs.Tests.{isEmpty}
-use Rattle.answers.specs.Answer.{noRow, Answer, refused, given, mapped}
-use Rattle.answers.proofs.Answers.{refused-given}
 use Rattle.spread.specs.Limits.{columns}
 use Rattle.spread.specs.Visits.{columnAt}
 use Rattle.spread.proofs.Rule.{term-pos}
@@ -20,10 +18,11 @@ use Rattle.rules.specs.State.{State, weights, orderOf, columnOf, held, holds, r
 use Rattle.rules.specs.Next as rules
 use Rattle.rules.specs.Next.{nextPosition, noted, termTaken, endingRound, termsMost, visitStarted, startFirst, scanning}
 use Rattle.rules.specs.Facts.{SoundTo, Sound, midway}
+use Rattle.rules.proofs.Cases.{none-some}
 use Rattle.rules.proofs.Rows.{order-least, order-most}
 use Rattle.rules.proofs.RoundEnd.{not-over, ending-not, ending-over, SameButOrder, ending-same}
 use Rattle.rules.proofs.Steps.{term-kept, ending-kept}
-use Rattle.rules.proofs.Choosing.{choosing}
+use Rattle.rules.proofs.Choosing.{row-found}
 use Rattle.memory.specs.Reading.{stateOf}
 use Rattle.memory.specs.SoundMemory.{SoundMemory}
 use Rattle.visits.specs.Choice.{chosenOf, inChosen}
@@ -36,17 +35,17 @@ use Rattle.plain.specs.declared.scan.Place.{Place}
 
 -- x is where the state s stands
 module _ (s : State) (x : Place) (o : x .order ≡ s .order) (p : x .position ≡ s .scan .position) (c : x .column ≡ s .scan .column) where
-  first-starts : (other : Answer rules.Chosen) {y : Chosen} → Starts x (s .scan .toVisit) y
-      → given y ≡ mapped inChosen (startFirst (s .scan .toVisit) (x .terms) s other)
+  first-starts : (other : Option rules.Chosen) {y : Chosen} → Starts x (s .scan .toVisit) y
+      → some y ≡ Option·map inChosen (startFirst (s .scan .toVisit) (x .terms) s other)
   first-starts other {y} w =
       let there : rules.Chosen = record { slot = w .first; started = 1; terms = x .terms; state = visitStarted s (w .first) (w .rest) } in
       let same : y ≡ inChosen there = w .chosen-is ∙ rw (o, p, c) refl in
-      ap (λ (z : Chosen). given z) same ∙ sym (ap (λ (l : List ℕ). mapped inChosen (startFirst l (x .terms) s other)) (w .list-is))
+      ap (λ (z : Chosen). some z) same ∙ sym (ap (λ (l : List ℕ). Option·map inChosen (startFirst l (x .terms) s other)) (w .list-is))
 
   -- however many terms may still be taken
-  pub scan-starts : (left : ℕ) {y : Chosen} → Starts x (s .scan .toVisit) y → given y ≡ mapped inChosen (scanning left (x .terms) s)
+  pub scan-starts : (left : ℕ) {y : Chosen} → Starts x (s .scan .toVisit) y → some y ≡ Option·map inChosen (scanning left (x .terms) s)
   unfolding scanning
-  scan-starts zero w = first-starts (refused noRow) w
+  scan-starts zero w = first-starts none w
   scan-starts (suc left) w = first-starts (scanning left (suc (x .terms)) (endingRound (termTaken s))) w
 
 -- ---- before a term, and after it
@@ -124,13 +123,13 @@ some-noted [] c e = absurd (true≢false e)
 some-noted (i ∷ rest) c e = refl
 
 module _ {b : List ℕ} (M : SoundMemory b) (filled : isEmpty (stateOf b .rows) ≡ false) where
-  -- the choice is given, so where none is left to visit a term may be taken
+  -- a slot is chosen, so where none is left to visit a term may be taken
   one-more : (left n : ℕ) (s : State) → s .scan .toVisit ≡ [] → scanning left n s ≡ chosenOf (stateOf b)
       → (f : ℕ) × (left ≡ suc f) × (scanning f (suc n) (endingRound (termTaken s)) ≡ chosenOf (stateOf b))
   unfolding scanning
   one-more zero n s e w =
-      let (y, g, h, k) = choosing (M .state) filled in
-      absurd (refused-given (sym (ap (λ (l : List ℕ). startFirst l n s (refused noRow)) e) ∙ w ∙ g))
+      let (y, g, few) = row-found (M .state) filled in
+      absurd (none-some (sym (ap (λ (l : List ℕ). startFirst l n s none) e) ∙ w ∙ g))
   one-more (suc f) n s e w =
       (f, refl, sym (ap (λ (l : List ℕ). startFirst l n s (scanning f (suc n) (endingRound (termTaken s)))) e) ∙ w)
 
@@ -251,9 +250,9 @@ module _ {b : List ℕ} (M : SoundMemory b) (filled : isEmpty (stateOf b .rows) 
         let at-column : x .column ≡ s .scan .column = sym (A .noted-is ∙ some-noted (s .scan .toVisit) (x .column) listed) in
         record {
           low = A .low;
-          some = some-there;
+          found = some-there;
           chosen = λ y w.
               scan-starts s x (A .stands .order-is) (A .stands .position-is) at-column (A .left) (subst (λ (l : List ℕ). Starts x l y) (sym (A .list-is)) w)
-              ∙ ap (λ (r : State). mapped inChosen (scanning (A .left) (x .terms) r)) (sym stays)
-              ∙ ap (mapped inChosen) (A .way);
+              ∙ ap (λ (r : State). Option·map inChosen (scanning (A .left) (x .terms) r)) (sym stays)
+              ∙ ap (Option·map inChosen) (A .way);
         }

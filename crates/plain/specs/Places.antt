@@ -3,11 +3,10 @@ use Prim.Native.Nat.{ℕ, suc, _+_, _^_, _≤_, _<_}
 use mathlib.Core.Path.{_≡_}
 use mathlib.Core.Bool.{false, cond, _&&_}
 use mathlib.Core.List.{List, [], _∷_}
-use mathlib.Core.Option.{none}
+use mathlib.Core.Option.{none, some, Option·map}
 use lib.Dec.{eqb}
 use Rattle.bits.specs.Mask.{maskOf}
 use Rattle.lists.specs.Tests.{isEmpty}
-use Rattle.answers.specs.Answer.{given, mapped}
 use Rattle.spread.specs.Limits.{columns}
 use Rattle.spread.specs.Visits.{columnAt}
 use Rattle.rules.specs.State.{State, weights, orderOf, columnOf, holds}
@@ -72,6 +71,6 @@ pub record Starts (x : Place) (list : List ℕ) (y : Chosen) : Type 0 where
 -- the column at x has a row, and to start the visit of its first row is the choice on the memory b
 pub record Finds (b : List ℕ) (x : Place) : Type 0 where
   pub low : x .column < columns
-  pub some : isEmpty (columnOf (weights (stateOf b .channels)) (stateOf b .rows) (x .column)) ≡ false
+  pub found : isEmpty (columnOf (weights (stateOf b .channels)) (stateOf b .rows) (x .column)) ≡ false
   pub chosen : (y : Chosen) → Starts x (columnOf (weights (stateOf b .channels)) (stateOf b .rows) (x .column)) y
-      → given y ≡ mapped inChosen (chosenOf (stateOf b))
+      → some y ≡ Option·map inChosen (chosenOf (stateOf b))

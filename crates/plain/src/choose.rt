@@ -17,9 +17,9 @@ use rules::SLOTS;
 use terms::table::copied;
 use visits::choose::Chosen;
 ghost use mathlib.Core.Path.{_≡_};
+ghost use mathlib.Core.Option.{some, Option·map};
 ghost use Prim.Native.Nat.{_<_};
 ghost use lib.ListN.{length};
-ghost use Rattle.answers.specs.Answer.{given, mapped};
 ghost use Rattle.rules.specs.Numbers.{slots};
 ghost use Rattle.rules.specs.Next as rules;
 ghost use Rattle.memory.specs.Reading.{rowCountAt, stateOf};
@@ -32,7 +32,7 @@ ghost use Rattle.plain.specs.Places.{Begins, Finds, Starts};
 // "If a visit is open, its slot is chosen. Else, if slots remain to visit, the first of them in row order starts a visit." Else terms are taken until there is one.
 pub fn choose(state: &[u8], scan: Scan) -> Chosen
     requires { ⌜ Chooses (now state) scan ⌝ }
-    ensures { λ r. ⌜ given r ≡ mapped inChosen (chosenOf (stateOf (now (state .entry)))) ⌝ }
+    ensures { λ r. ⌜ some r ≡ Option·map inChosen (chosenOf (stateOf (now (state .entry)))) ⌝ }
 {
     let visit = scan.visit;
     let order = load_order(state);
@@ -64,7 +64,7 @@ pub fn choose(state: &[u8], scan: Scan) -> Chosen
 // The matrix is filled and the table copied, once each, and terms are taken until a column has a row.
 fn by_terms(state: &[u8], start: Place) -> Chosen
     requires { ⌜ Begins (now state) start ⌝ }
-    ensures { λ r. ⌜ given r ≡ mapped inChosen (chosenOf (stateOf (now (state .entry)))) ⌝ }
+    ensures { λ r. ⌜ some r ≡ Option·map inChosen (chosenOf (stateOf (now (state .entry)))) ⌝ }
 {
     let table = copied();
     let mut matrix: [u8; CELLS] = [0; CELLS];
@@ -76,7 +76,7 @@ fn by_terms(state: &[u8], start: Place) -> Chosen
 // "All rows of the column found become the slots to visit, and the first starts its visit."
 fn column_visited(state: &[u8], matrix: &[u8], found: Place) -> Chosen
     requires { ⌜ RowsWithin (now state) × MatrixOf (now state) (now matrix) × Finds (now state) found ⌝ }
-    ensures { λ r. ⌜ given r ≡ mapped inChosen (chosenOf (stateOf (now (state .entry)))) ⌝ }
+    ensures { λ r. ⌜ some r ≡ Option·map inChosen (chosenOf (stateOf (now (state .entry)))) ⌝ }
 {
     let mut list: [u8; SLOTS] = [0; SLOTS];
     let count = row_count(state);

@@ -14,7 +14,6 @@ use Rattle.bits.specs.Order.{order}
 use Rattle.lists.specs.Tests.{isEmpty}
 use Rattle.bits.proofs.BitLaws.{parity}
 use Rattle.bits.proofs.OrderLaws.{order-zero}
-use Rattle.answers.specs.Answer.{noRow, Answer, refused}
 use Rattle.spread.specs.Visits.{columnAt}
 use Rattle.spread.proofs.Visits.{even-next}
 use Rattle.spread.specs.Jump.{jump, Found}
@@ -43,7 +42,7 @@ found-filled s q z = union-column (weights (s .channels)) (s .rows) (columnAt (s
 
 -- ---- one term, and none to visit
 
-first-any : (l : List ℕ) (n : ℕ) (s : State) (a b : Answer Chosen) → isEmpty l ≡ false → startFirst l n s a ≡ startFirst l n s b
+first-any : (l : List ℕ) (n : ℕ) (s : State) (a b : Option Chosen) → isEmpty l ≡ false → startFirst l n s a ≡ startFirst l n s b
 first-any [] n s a b e = absurd (true≢false e)
 first-any (i ∷ rest) n s a b e = refl
 
@@ -246,4 +245,4 @@ choose-jumps s S v e = go (s .scan .toVisit) refl
   where
     go : (l : List ℕ) → s .scan .toVisit ≡ l → scanning (termsMost s) 0 s ≡ startFirst l 0 s (jumping s)
     go [] q = scan-jumps s S v q e
-    go (i ∷ rest) q = listed-visiting (termsMost s) 0 s (ap isEmpty q) ∙ ap (λ (l : List ℕ). startFirst l 0 s (refused noRow)) q
+    go (i ∷ rest) q = listed-visiting (termsMost s) 0 s (ap isEmpty q) ∙ ap (λ (l : List ℕ). startFirst l 0 s none) q

@@ -4,7 +4,6 @@ use Prim.Native.Nat.{ℕ, _-_, _^_}
 use mathlib.Core.List.{List, [], _∷_}
 use mathlib.Core.Option.{Option, none, some}
 use lib.Bits.{bitOr}
-use Rattle.answers.specs.Answer.{noRow, Answer, refused}
 use Rattle.spread.specs.Visits.{columnAt}
 use Rattle.spread.specs.Jump.{jump}
 use Rattle.rules.specs.State.{State, weights, columnOf, withScan}
@@ -23,13 +22,13 @@ landed s p =
     withScan s (record { position = p; column = noted found c; toVisit = found; visit = s .scan .visit })
 
 -- the first visit there, n terms having been taken
-abbrev pub visiting : ℕ → State → Answer Chosen
-visiting n s = startFirst (s .scan .toVisit) n s (refused noRow)
+abbrev pub visiting : ℕ → State → Option Chosen
+visiting n s = startFirst (s .scan .toVisit) n s none
 
 -- a position of this round, or position 1 of the next (in edition 1 the order worked out afresh is the order)
-abbrev pub jumped : Option ℕ → State → Answer Chosen
+abbrev pub jumped : Option ℕ → State → Option Chosen
 jumped (some t) s = visiting (t - s .scan .position) (landed s t)
 jumped none s = visiting (2 ^ s .order - s .scan .position) (landed (roundEnded s) 1)
 
-unfoldable pub jumping : State → Answer Chosen
+unfoldable pub jumping : State → Option Chosen
 jumping s = jumped (jump (s .order) (unionOf (weights (s .channels)) (s .rows)) (s .scan .position)) s

@@ -5,7 +5,7 @@ use Prim.Native.Nat.{ℕ, zero, suc, _+_, _^_, _≤_, _<_}
 use native.Mathlib.Omega.{arith}
 use lib.Dec.{lit<}
 use lib.ListN.{length, getD}
-use Rattle.answers.specs.Answer.{Refusal, noSlot, notPresent, atClosing, badLength, full, badWeight, noneFree, noneWaits, noRow, unsound, noTerm, badEdition, noShared, parked, badImage, shortBuffer, numberOf, Answer}
+use Rattle.answers.specs.Answer.{Refusal, noSlot, notPresent, atClosing, badLength, full, badWeight, noneFree, noneWaits, unsound, noTerm, badEdition, noShared, parked, badImage, shortBuffer, numberOf, Answer}
 use Rattle.memory.specs.Memory.{Left}
 use Rattle.uplink.specs.Told.{leaving}
 use Rattle.octets.specs.Writing.{written}
@@ -32,7 +32,6 @@ number-small full = lit< tt
 number-small badWeight = lit< tt
 number-small noneFree = lit< tt
 number-small noneWaits = lit< tt
-number-small noRow = lit< tt
 number-small unsound = lit< tt
 number-small noTerm = lit< tt
 number-small badEdition = lit< tt

@@ -2,19 +2,20 @@
 -- answers say. Then in document 01's own wording, which is edition 1's. That calls are in range says that a reference is a 32-bit number.
 use Prim.Native.Nat.{ℕ, _+_, _*_, _^_, _≤_, _<_}
 use mathlib.Core.Path.{_≡_, refl, sym, ap, _∙_}
-use mathlib.Core.Bool.{Bool, true, false, cond}
+use mathlib.Core.Bool.{true, false}
 use mathlib.Core.List.{List, [], _∷_, _++_}
-use native.Mathlib.Omega.{arith}
-use Rattle.answers.specs.Answer.{Refusal, noRow, unsound, refused, given}
+use mathlib.Core.Option.{some}
+use Rattle.answers.specs.Answer.{refused, given}
 use Rattle.spread.specs.Distance.{Near}
-use Rattle.answers.proofs.Answers.{refused-given, given-inj}
+use Rattle.answers.proofs.Answers.{refused-given, given-inj, nine-unused}
+use Rattle.lists.specs.Tests.{isEmpty}
 use Rattle.rules.specs.Numbers.{granted, restLimit}
 use Rattle.rules.specs.State.{State, at}
 use Rattle.rules.specs.Reply.{Reply}
-use Rattle.rules.specs.Next.{Sent, termsMost, nextCall}
+use Rattle.rules.specs.Next.{Sent, Chosen, termsMost, chooseBy, nextCall}
 use Rattle.rules.specs.Calls.{Call, AllInRange}
 use Rattle.rules.specs.Facts.{Sound}
-use Rattle.rules.proofs.Served.{no-nine}
+use Rattle.rules.proofs.Choosing.{row-found}
 use Rattle.rules.proofs.NextFrame.{next-terms}
 use Rattle.memory.specs.Reading.{stateOf}
 use Rattle.memory.specs.Memory.{soundBytes, Left, replied, on}
@@ -39,7 +40,7 @@ use Rattle.promises.proofs.Promises.{
   round-ends,
   round-reached,
 }
-use Rattle.uplink.specs.Lent.{runOn, totalOn, momentsOn, heldOn, orderOn, weightOn, ThroughoutOn, WithinOn, RoundOn}
+use Rattle.uplink.specs.Lent.{answerOn, numberOn, runOn, totalOn, momentsOn, heldOn, orderOn, weightOn, ThroughoutOn, WithinOn, RoundOn}
 use Rattle.uplink.proofs.Runs.{run-state}
 use Rattle.uplink.proofs.Observed.{total-on, throughout-on, within-on, round-on, on-round}
 
@@ -115,18 +116,14 @@ terms-on b a e q = go (nextCall (stateOf b)) refl (ap (λ (x : Left Sent). x .an
     go (refused n) p z = absurd (refused-given z)
     go (given d) p z = rw (← given-inj z) (next-terms (memory-sound b e .state) p)
 
--- "9 is never given", in either edition, on any bytes
-pub no-nine-on : (b : List ℕ) → on nextCall b .answer ≡ refused noRow → ⊥
-unfolding on
-no-nine-on b = go (soundBytes b) refl
-  where
-    told : (r : Reply Sent) → nextCall (stateOf b) ≡ r → soundBytes b ≡ true → replied b r .answer ≡ refused noRow → ⊥
-    told (refused n) p e z = let same : n ≡ noRow = cc in no-nine (memory-sound b e .state) (p ∙ ap (λ (m : Refusal). refused m) same)
-    told (given d) p e z = refused-given (sym z)
+-- in a sound memory with rows a slot is chosen, within those terms
+pub row-found-on : (b : List ℕ) → soundBytes b ≡ true → isEmpty (stateOf b .rows) ≡ false
+    → (x : Chosen) × (chooseBy (stateOf b .scan .visit) (stateOf b) ≡ some x) × (x .terms ≤ termsMost (stateOf b))
+row-found-on b e = row-found (memory-sound b e .state)
 
-    go : (t : Bool) → soundBytes b ≡ t → cond t (replied b (nextCall (stateOf b))) (record { answer = refused unsound; bytes = b }) .answer ≡ refused noRow → ⊥
-    go true e z = told (nextCall (stateOf b)) refl e z
-    go false e z = let y : _≡_ {A = ℕ} 0 1 = cc in omega arith
+-- so 9 is not used (02 §8): no call answers it, in either edition, on any bytes and any numbers
+pub nine-unused-on : (b : List ℕ) (c : Call) → numberOn b c ≡ 9 → ⊥
+nine-unused-on b c = nine-unused (answerOn b c)
 
 -- ---- edition 1, in document 01's own wording: rounds between calls
 

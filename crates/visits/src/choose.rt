@@ -14,8 +14,8 @@ use memory::search::union_of_rows;
 use spread::jump::column_at;
 use spread::jump::next_filled;
 ghost use mathlib.Core.Path.{_≡_};
+ghost use mathlib.Core.Option.{some, Option·map};
 ghost use Prim.Native.Nat.{_^_, _≤_, _<_};
-ghost use Rattle.answers.specs.Answer.{given, mapped};
 ghost use Rattle.spread.specs.Limits.{columns};
 ghost use Rattle.rules.specs.Numbers.{slots};
 ghost use Rattle.memory.specs.Reading.{inMask, stateOf};
@@ -34,7 +34,7 @@ pub struct Chosen {
 // "If a visit is open, its slot is chosen. Else, if slots remain to visit, the first of them in row order starts a visit." Else terms are taken until there is one.
 pub fn choose(state: &[u8], scan: Scan) -> Chosen
     requires { ⌜ Chooses (now state) scan ⌝ }
-    ensures { λ r. ⌜ given r ≡ mapped inChosen (chosenOf (stateOf (now (state .entry)))) ⌝ }
+    ensures { λ r. ⌜ some r ≡ Option·map inChosen (chosenOf (stateOf (now (state .entry)))) ⌝ }
 {
     let visit = scan.visit;
     let order = load_order(state);
@@ -57,7 +57,7 @@ pub fn choose(state: &[u8], scan: Scan) -> Chosen
 // one. (In edition 1 the order is theirs all the while, and P turns to 1.)
 fn jumped(state: &[u8], order: u8, scan: Scan) -> Chosen
     requires { ⌜ Chooses (now state) scan × (order ≡ stateOf (now state) .order) × (scan .visit ≡ 0) × (scan .mask ≡ 0) ⌝ }
-    ensures { λ r. ⌜ given r ≡ mapped inChosen (chosenOf (stateOf (now (state .entry)))) ⌝ }
+    ensures { λ r. ⌜ some r ≡ Option·map inChosen (chosenOf (stateOf (now (state .entry)))) ⌝ }
 {
     let union = union_of_rows(state);
     let next = next_filled(order as u32, union, scan.position as u32);

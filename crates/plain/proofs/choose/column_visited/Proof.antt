@@ -41,7 +41,7 @@ first-visit-requires c κs =
     let n = c .before .before .before .before .before .before .before .row-count .ensures .0 in
     let first = c .before .first-marked .ensures in
     let listed = column-marks b _ _ (P .1) n (P .2 .low) (c .before .before .before .before .column-listed .ensures .1) in
-    (P .0, c .before .before .before .before .column-listed .ensures .0, rw n at first, rw n at (some-first _ (stateOf b .rows) _ _ (rows-length b ∙ sym n) first (ap isEmpty listed ∙ P .2 .some)))
+    (P .0, c .before .before .before .before .column-listed .ensures .0, rw n at first, rw n at (some-first _ (stateOf b .rows) _ _ (rows-length b ∙ sym n) first (ap isEmpty listed ∙ P .2 .found)))
 
 returns : tie.Need-returns
 returns c =
