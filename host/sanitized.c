@@ -99,7 +99,7 @@ static void made_at(int place, const struct call *c, const uint8_t *before, stru
     given_back(image, place);
 }
 
-/* The numbers that each call can give, by docs/ANSWERS.md, and 0 behind them. No sound state gives 9. */
+/* The numbers that each call can give, by docs/ANSWERS.md, and 0 behind them. 9 is not used. */
 static int can_give(enum kind kind, uint32_t number)
 {
     static const uint32_t numbers[KINDS][9] = {{10, 12}, {10, 14, 6, 7}, {10, 14, 1, 2, 3, 4, 5, 13}, {10, 14, 1, 2, 3}, {10, 14, 8},

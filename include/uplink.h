@@ -90,7 +90,7 @@ extern "C" {
 #define UPLINK_HOLDING 2
 #define UPLINK_MOST_TERMS 2
 
-/* The numbers sent back. uplink_text has them in words. */
+/* The numbers sent back. uplink_text has them in words. 9 is not used. */
 enum uplink_refusal {
     UPLINK_ACCEPTED = 0,
     UPLINK_NO_SLOT = 1,      /* slot above 63 */
@@ -101,7 +101,6 @@ enum uplink_refusal {
     UPLINK_BAD_WEIGHT = 6,   /* weight 0 or above 4,095 */
     UPLINK_NONE_FREE = 7,    /* no slot can be opened */
     UPLINK_NONE_WAITS = 8,   /* no record waits */
-    UPLINK_NO_ROW = 9,       /* two terms taken and both columns empty (no sound state gives it) */
     UPLINK_UNSOUND = 10,     /* lent state unsound or of wrong length; answer buffer of wrong length */
     UPLINK_NO_TERM = 11,     /* order not 1 to 12, or position not 1 to 2^order - 1 */
     UPLINK_BAD_EDITION = 12, /* edition not 1 or 2 */
@@ -194,7 +193,6 @@ static inline const char *uplink_text(uint32_t number)
     case UPLINK_BAD_WEIGHT: return "weight out of range";
     case UPLINK_NONE_FREE: return "no slot can be opened";
     case UPLINK_NONE_WAITS: return "no record waits";
-    case UPLINK_NO_ROW: return "no row in the columns of two terms";
     case UPLINK_UNSOUND: return "state unsound, or state or answer of wrong length";
     case UPLINK_NO_TERM: return "no such term";
     case UPLINK_BAD_EDITION: return "no such edition";

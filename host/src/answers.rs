@@ -1,7 +1,7 @@
 //! The answers of the calls and the numbers sent back (document 01, "The calls" and "Numbers sent back"; the longest length, the room and the
 //! numbers from 12 on are document 02's), for the independent scheduler: written from the documents, not taken from the wrapper.
 
-/// Why a call is refused: the documents' number, under the header's name.
+/// Why a call is refused: the documents' number, under the header's name. "Show that no sound state gives it .., then remove it": 9 is not used (document 02, §8).
 #[derive(Clone, Copy, Debug, PartialEq, Eq)]
 pub enum Refusal {
     /// "slot above 63"
@@ -20,8 +20,6 @@ pub enum Refusal {
     NoneFree = 7,
     /// "no record waits"
     NoneWaits = 8,
-    /// "two terms taken and both columns empty"
-    NoRow = 9,
     /// "lent state unsound or of wrong length"
     Unsound = 10,
     /// "order not 1 to 12, or position not 1 to 2^order - 1"
@@ -39,7 +37,7 @@ pub enum Refusal {
 }
 
 impl Refusal {
-    pub const ALL: [Refusal; 16] = [
+    pub const ALL: [Refusal; 15] = [
         Refusal::NoSlot,
         Refusal::NotPresent,
         Refusal::AtClosing,
@@ -48,7 +46,6 @@ impl Refusal {
         Refusal::BadWeight,
         Refusal::NoneFree,
         Refusal::NoneWaits,
-        Refusal::NoRow,
         Refusal::Unsound,
         Refusal::NoTerm,
         Refusal::BadEdition,

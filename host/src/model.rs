@@ -26,6 +26,16 @@ pub fn on<A: Fields>(
     answer_length: usize,
     call: impl FnOnce(&mut Scheduler) -> Result<A, Refusal>,
 ) -> u32 {
+    on_by_number(state, answer, answer_length, |scheduler| call(scheduler).map_err(Refusal::number))
+}
+
+/// The same with refusals as numbers, so that a wrong engine may tell one that is in no table.
+pub fn on_by_number<A: Fields>(
+    state: &mut [u8],
+    answer: &mut [u8],
+    answer_length: usize,
+    call: impl FnOnce(&mut Scheduler) -> Result<A, u32>,
+) -> u32 {
     if answer.len() != answer_length {
         return Refusal::Unsound.number();
     }
@@ -39,7 +49,7 @@ pub fn on<A: Fields>(
             layout::write(&scheduler, state);
             0
         }
-        Err(refusal) => refusal.number(),
+        Err(number) => number,
     }
 }
 

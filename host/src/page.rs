@@ -30,7 +30,7 @@ pub fn page(before: &Scheduler) -> String {
         return String::new();
     }
     let mut now = before.clone();
-    let Ok((slot, _, terms)) = now.choose(&mut |_, _| {}) else { return String::new() };
+    let (slot, _, terms) = now.choose(&mut |_, _| {});
     let order = now.order;
     let term = (now.scan.position > 0).then(|| term_of(order, now.scan.position));
     // That of the last term taken; else that of the list that was there before; a visit that goes on with no list scans none.

@@ -253,7 +253,7 @@ impl Scheduler {
         if self.rows.is_empty() {
             return Err(Refusal::NoneWaits);
         }
-        let (slot, started, terms) = self.choose(tell)?;
+        let (slot, started, terms) = self.choose(tell);
         let ticket = self.channels[slot].ticket as u32;
         let serial = self.channels[slot].head_serial() as u32;
         let record = self.send(slot);

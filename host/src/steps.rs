@@ -1,7 +1,6 @@
 //! The steps of Next, and what they look at (document 01, "Next does this"; document 02, §3). They are apart so that each can be read beside its
 //! sentence. Terms are taken one by one in both editions, and a round's end is a step of its own.
 
-use crate::answers::Refusal;
 use crate::scheduler::{Kind, Record, Scheduler, GRANT};
 use crate::spread::term_of;
 
@@ -40,36 +39,33 @@ impl Scheduler {
         self.rows.iter().copied().filter(has_bit).collect()
     }
 
-    /// Step 1: the slot that sends, whether its visit starts now, and the terms taken.
-    pub fn choose(&mut self, tell: Tell) -> Result<(usize, bool, u32), Refusal> {
+    /// Step 1, of a sound state with rows: the slot that sends, whether its visit starts now, and the terms taken.
+    pub fn choose(&mut self, tell: Tell) -> (usize, bool, u32) {
         if let Some(slot) = self.scan.visit {
-            return Ok((slot, false, 0));
+            return (slot, false, 0);
         }
-        let terms = if self.scan.to_visit.is_empty() { self.take_terms(tell)? } else { 0 };
+        let terms = if self.scan.to_visit.is_empty() { self.take_terms(tell) } else { 0 };
         let listed = |slot: &usize| self.scan.to_visit.contains(slot);
-        let first = self.rows.iter().copied().find(listed).ok_or(Refusal::NoRow)?;
+        let first = self.rows.iter().copied().find(listed).expect("a slot to visit is a row");
         self.start_visit(first);
         tell(self, Moment::VisitStart { slot: first });
-        Ok((first, true, terms))
+        (first, true, terms)
     }
 
-    /// Terms until one has a row; all of them are counted, a finished round's too. Edition 1: "If that column is empty, one more term is taken", and 9 is
-    /// for "two terms taken and both columns empty". Edition 2: "A call goes on taking terms, through a round's end if need be, until it finds a row."
-    pub fn take_terms(&mut self, tell: Tell) -> Result<u32, Refusal> {
-        let before = self.scan.clone();
-        let mut terms = 0;
-        while self.edition == 2 || terms < 2 {
+    /// Terms until one has a row; all of them are counted, a finished round's too. Edition 1: "If that column is empty, one more term is taken". Edition 2: "A call
+    /// goes on taking terms, through a round's end if need be, until it finds a row. Up to 2^k - 1 terms may be taken, k as before the call, not two." A sound
+    /// state with rows has one within those (document 02, §8): a run in which there is none stops here.
+    pub fn take_terms(&mut self, tell: Tell) -> u32 {
+        let most = if self.edition == 2 { (1 << self.order) - 1 } else { 2 };
+        for terms in 1..=most {
             self.take_term();
             tell(self, Moment::Term);
-            terms += 1;
             if !self.scan.to_visit.is_empty() {
-                return Ok(terms);
+                return terms;
             }
             self.end_round(tell);
         }
-        // A refusal changes nothing.
-        self.scan = before;
-        Err(Refusal::NoRow)
+        panic!("{most} terms find no row in edition {}", self.edition);
     }
 
     /// One term: "P goes up by one, and 2^k becomes 1; the column is k minus the term", and "All rows of the column found become the slots to visit".

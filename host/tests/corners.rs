@@ -118,15 +118,16 @@ fn histories_meet_every_corner() {
         assert!(times >= 20, "{corner}: {times}");
     }
     let (start, open, put) = (("start", &[0, 12][..]), ("open", &[0, 6, 7][..]), ("put", &[0, 1, 2, 3, 4, 5, 13][..]));
-    let (park, unpark) = (("park", &[0, 14, 16][..]), ("unpark", &[0, 15][..]));
-    for (call, list) in [start, open, put, ("close", &[0, 1, 2, 3]), ("next", &[0, 8]), ("ask", &[0, 1, 2]), park, unpark] {
-        // A parked state refuses every call but Start and the reader.
-        let parked = (!["start", "unpark"].contains(&call)).then_some(&14);
+    let (park, unpark) = (("park", &[0, 16][..]), ("unpark", &[0, 15][..]));
+    for (call, list) in [start, open, put, ("close", &[0, 1, 2, 3]), ("next", &[0, 8]), ("ask", &[0, 1, 2]), park, unpark, ("apart", &[0])]
+    {
+        // A parked state refuses every call on it but Start and the reader.
+        let parked = (!["start", "unpark", "apart"].contains(&call)).then_some(&14);
         for &number in list.iter().chain(parked) {
-            assert!(numbers.get(&(call, number)).is_some_and(|&times| times >= 20), "{call} with number {number}");
+            assert!(numbers.remove(&(call, number)).is_some_and(|times| times >= 20), "{call} with number {number}");
         }
     }
-    assert!(numbers.keys().all(|&(_, number)| number != 9), "9 is never given");
+    assert!(numbers.is_empty(), "numbers that the call does not give: {numbers:?}");
 }
 
 /// What calls meet where a memory has been changed.

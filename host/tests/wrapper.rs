@@ -203,7 +203,8 @@ fn a_refusal_is_an_error_with_a_text_of_its_own() {
     let texts: Vec<String> = Refusal::ALL.iter().map(|refusal| (refusal as &dyn Error).to_string()).collect();
     assert!(texts.iter().enumerate().all(|(place, text)| !text.is_empty() && !texts[..place].contains(text)), "{texts:?}");
     for number in 0..20 {
-        assert_eq!(Refusal::from_number(number).map(Refusal::number), (1..=16).contains(&number).then_some(number));
+        let used = (1..=8).contains(&number) || (10..=16).contains(&number);
+        assert_eq!(Refusal::from_number(number).map(Refusal::number), used.then_some(number));
     }
 }
 

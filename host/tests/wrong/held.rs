@@ -7,7 +7,7 @@ use host::model::Model;
 use host::scheduler::Scheduler;
 use host::spread::term_of;
 
-use super::{Slip, Wrong};
+use super::{Slip, Wrong, GIVEN_UP};
 
 impl Wrong {
     /// A row has left; given are the order and P from before.
@@ -42,8 +42,8 @@ impl Wrong {
         };
     }
 
-    /// Terms until one has a row.
-    pub fn take_terms(&self, scheduler: &mut Scheduler) -> Result<u32, Refusal> {
+    /// Terms until one has a row, or the number of a search that is given up.
+    pub fn take_terms(&self, scheduler: &mut Scheduler) -> Result<u32, u32> {
         let before = scheduler.scan.clone();
         let (mut terms, mut ended) = (0, false);
         while scheduler.edition == 2 && !self.is(Slip::TwoTermsAlone) || terms < 2 {
@@ -60,7 +60,7 @@ impl Wrong {
             }
         }
         scheduler.scan = before;
-        Err(Refusal::NoRow)
+        Err(GIVEN_UP)
     }
 
     /// The table is read one position late, but for the last: the column is that of the next term.

@@ -8,12 +8,15 @@ mod slip;
 use host::answers::{Opened, Refusal, Sent};
 use host::engine::Engine;
 use host::layout::{self, MARK};
-use host::model::{answer_bytes, apart, on};
+use host::model::{answer_bytes, apart, on, on_by_number};
 use host::scheduler::{Kind, Record, Scheduler, FRAMING, GOING, LAST_TICKET, LONGEST, MOST_WAITING};
 use host::spread;
 pub use slip::Slip;
 
 pub struct Wrong(pub Slip);
+
+/// What an engine tells that has searched in too few columns: a number of no refusal (9 is not used).
+const GIVEN_UP: u32 = 9;
 
 impl Wrong {
     fn is(&self, slip: Slip) -> bool {
@@ -120,12 +123,12 @@ impl Wrong {
     }
 
     /// Next with its steps as in the scheduler, and the slips between them.
-    fn next_call(&self, scheduler: &mut Scheduler) -> Result<Sent, Refusal> {
+    fn next_call(&self, scheduler: &mut Scheduler) -> Result<Sent, u32> {
         if !self.is(Slip::NextUnparked) {
-            scheduler.going()?;
+            scheduler.going().map_err(Refusal::number)?;
         }
         if scheduler.rows.is_empty() {
-            return Err(Refusal::NoneWaits);
+            return Err(Refusal::NoneWaits.number());
         }
         if self.is(Slip::EndAtNextCall) {
             self.end_round(scheduler);
@@ -146,7 +149,7 @@ impl Wrong {
         Ok(Sent { slot: slot as u32, ticket, length: record.length as u32, reference: record.reference as u32, serial, started, terms })
     }
 
-    fn choose(&self, scheduler: &mut Scheduler) -> Result<(usize, bool, u32), Refusal> {
+    fn choose(&self, scheduler: &mut Scheduler) -> Result<(usize, bool, u32), u32> {
         if let Some(slot) = scheduler.scan.visit {
             return Ok((slot, false, 0));
         }
@@ -160,7 +163,7 @@ impl Wrong {
         let listed = |slot: &usize| scheduler.scan.to_visit.contains(slot);
         let first =
             if self.is(Slip::SlotOrder) { scheduler.scan.to_visit.first().copied() } else { scheduler.rows.iter().copied().find(listed) };
-        let first = first.ok_or(Refusal::NoRow)?;
+        let first = first.ok_or(GIVEN_UP)?;
         let column = scheduler.scan.column;
         scheduler.start_visit(first);
         if self.is(Slip::ColumnKept) {
@@ -243,7 +246,7 @@ impl Engine for Wrong {
     }
 
     fn next(&mut self, state: &mut [u8], answer: &mut [u8]) -> u32 {
-        self.around(state, answer, 28, |state, answer| on(state, answer, 28, |scheduler| self.next_call(scheduler)))
+        self.around(state, answer, 28, |state, answer| on_by_number(state, answer, 28, |scheduler| self.next_call(scheduler)))
     }
 
     fn ask(&mut self, state: &mut [u8], slot: u32, ticket: u32, answer: &mut [u8]) -> u32 {

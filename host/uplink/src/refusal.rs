@@ -3,7 +3,7 @@
 use std::error::Error;
 use std::fmt;
 
-/// Why a call is refused. The discriminant is the number.
+/// Why a call is refused. The discriminant is the number; 9 is not used.
 #[derive(Clone, Copy, Debug, PartialEq, Eq, Hash)]
 pub enum Refusal {
     /// Slot above 63.
@@ -22,8 +22,6 @@ pub enum Refusal {
     NoneFree = 7,
     /// No record waits.
     NoneWaits = 8,
-    /// Two terms taken and both columns empty. No sound state gives it.
-    NoRow = 9,
     /// Lent state unsound.
     Unsound = 10,
     /// Order not 1 to 12, or position not 1 to 2^order - 1.
@@ -42,7 +40,7 @@ pub enum Refusal {
 
 impl Refusal {
     /// Every refusal, by its number.
-    pub const ALL: [Refusal; 16] = [
+    pub const ALL: [Refusal; 15] = [
         Refusal::NoSlot,
         Refusal::NotPresent,
         Refusal::AtClosing,
@@ -51,7 +49,6 @@ impl Refusal {
         Refusal::BadWeight,
         Refusal::NoneFree,
         Refusal::NoneWaits,
-        Refusal::NoRow,
         Refusal::Unsound,
         Refusal::NoTerm,
         Refusal::BadEdition,
@@ -84,7 +81,6 @@ impl fmt::Display for Refusal {
             Refusal::BadWeight => "weight out of range",
             Refusal::NoneFree => "no slot can be opened",
             Refusal::NoneWaits => "no record waits",
-            Refusal::NoRow => "no row in the columns of two terms",
             Refusal::Unsound => "state unsound, or state or answer of wrong length",
             Refusal::NoTerm => "no such term",
             Refusal::BadEdition => "no such edition",
