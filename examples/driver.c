@@ -54,6 +54,15 @@ static void close_channel(const char *board, struct channel c)
         refused(board, "close", number);
 }
 
+/* Who is filling up, the fullest first, for the dispatcher's panel. */
+static void show_fullest(void)
+{
+    uint8_t a[UPLINK_FULLEST_LENGTH];
+    if (uplink_fullest(state, sizeof state, a, sizeof a) == UPLINK_ACCEPTED)
+        for (uint32_t i = 0; i < uplink_field(a, 0); i++)
+            printf("panel: %" PRIu32 " bytes wait in slot %" PRIu32 "\n", uplink_field(a, 2 * i + 2), uplink_field(a, 2 * i + 1));
+}
+
 /* Sends until nothing waits; the radio here only prints. */
 static void send_all(void)
 {
@@ -78,6 +87,7 @@ int main(void)
     for (uint32_t i = 0; i < 4; i++)
         put_record("drive", drive, UPLINK_LONGEST, 100 + i);
     put_record("drive", drive, UPLINK_LONGEST + 1, 104);
+    show_fullest();
     send_all();
 
     /* The door board is pulled: its driver closes the channel, and the disconnect is still on the way. */

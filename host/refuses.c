@@ -33,6 +33,7 @@ REFUSES(uplink_put, UPLINK_PUT_LENGTH, uint8_t *s, size_t n, uint32_t i, uint32_
 REFUSES(uplink_close, UPLINK_CLOSE_LENGTH, uint8_t *s, size_t n, uint32_t i, uint32_t t)
 REFUSES(uplink_next, UPLINK_NEXT_LENGTH, uint8_t *s, size_t n)
 REFUSES(uplink_ask, UPLINK_ASK_LENGTH, const uint8_t *s, size_t n, uint32_t i, uint32_t t)
+REFUSES(uplink_fullest, UPLINK_FULLEST_LENGTH, const uint8_t *s, size_t n)
 REFUSES(uplink_park, UPLINK_PARK_LENGTH, uint8_t *s, size_t n, uint8_t *i, size_t m)
 REFUSES(uplink_lead, UPLINK_LEAD_LENGTH, uint32_t w1, uint32_t v1, uint32_t w2, uint32_t v2)
 REFUSES(uplink_term, UPLINK_TERM_LENGTH, uint32_t k, uint32_t p)

@@ -16,14 +16,21 @@
 #include "uplink.h"
 
 enum { PAGE = 4096, SPACE = 2 * PAGE, PLACES = 3, WIDEST = 64, PAINT = 0xa5 };
-/* The cells for records, the state ahead of them, which take six bytes each, and where its edition and its mark stand. */
-enum { CELLS = UPLINK_SLOTS * UPLINK_KEPT + UPLINK_SHARED, HEADS = UPLINK_STATE_LENGTH - 6 * CELLS, EDITION = HEADS - 50, MARK = EDITION + 1 };
+/* The cells for records, which take six bytes each, the notes behind them (two bytes a slot, a number and the slots listed), the state ahead of them, and where its
+   edition and its mark stand. */
+enum {
+    CELLS = UPLINK_SLOTS * UPLINK_KEPT + UPLINK_SHARED,
+    NOTES = 2 * UPLINK_SLOTS + 1 + UPLINK_LISTED,
+    HEADS = UPLINK_STATE_LENGTH - NOTES - 6 * CELLS,
+    EDITION = HEADS - 50,
+    MARK = EDITION + 1
+};
 /* Those up to UNPARK take a state. */
-enum kind { START, OPEN, PUT, CLOSE, NEXT, ASK, PARK, UNPARK, LEAD, TERM, KINDS };
+enum kind { START, OPEN, PUT, CLOSE, NEXT, ASK, FULLEST, PARK, UNPARK, LEAD, TERM, KINDS };
 
-static const char *const names[KINDS] = {"start", "open", "put", "close", "next", "ask", "park", "unpark", "lead", "term"};
+static const char *const names[KINDS] = {"start", "open", "put", "close", "next", "ask", "fullest", "park", "unpark", "lead", "term"};
 static const size_t right[KINDS] = {0, UPLINK_OPEN_LENGTH, UPLINK_PUT_LENGTH, UPLINK_CLOSE_LENGTH, UPLINK_NEXT_LENGTH, UPLINK_ASK_LENGTH,
-                                    UPLINK_PARK_LENGTH, 0, UPLINK_LEAD_LENGTH, UPLINK_TERM_LENGTH};
+                                    UPLINK_FULLEST_LENGTH, UPLINK_PARK_LENGTH, 0, UPLINK_LEAD_LENGTH, UPLINK_TERM_LENGTH};
 
 struct call {
     enum kind kind;
@@ -76,6 +83,7 @@ static uint32_t made(const struct call *c, uint8_t *state, uint8_t *image, uint8
     case CLOSE: return uplink_close(state, s, n[0], n[1], answer, a);
     case NEXT: return uplink_next(state, s, answer, a);
     case ASK: return uplink_ask(state, s, n[0], n[1], answer, a);
+    case FULLEST: return uplink_fullest(state, s, answer, a);
     case PARK: return uplink_park(state, s, image, c->image_length, answer, a);
     case UNPARK: return uplink_unpark(state, s, image, c->image_length);
     case LEAD: return uplink_lead(n[0], n[1], n[2], n[3], answer, a);
@@ -103,7 +111,7 @@ static void made_at(int place, const struct call *c, const uint8_t *before, stru
 static int can_give(enum kind kind, uint32_t number)
 {
     static const uint32_t numbers[KINDS][9] = {{10, 12}, {10, 14, 6, 7}, {10, 14, 1, 2, 3, 4, 5, 13}, {10, 14, 1, 2, 3}, {10, 14, 8},
-                                               {10, 14, 1, 2}, {10, 14, 16}, {10, 15}, {10, 6}, {10, 11}};
+                                               {10, 14, 1, 2}, {10, 14}, {10, 14, 16}, {10, 15}, {10, 6}, {10, 11}};
     for (int i = 0; i < 9; i++)
         if (numbers[kind][i] == number)
             return 1;
@@ -148,6 +156,28 @@ static const char *park_fault(const struct call *c, const uint8_t *before, const
     return NULL;
 }
 
+/* What is wrong with a Fullest that was accepted, or NULL: at most five are listed, each with bytes and in turn, and zeros stand behind them. */
+static const char *fullest_fault(const uint8_t *answer)
+{
+    uint32_t count = uplink_field(answer, 0), slot, bytes, slot_before = 0, bytes_before = UINT32_MAX;
+    if (count > UPLINK_LISTED)
+        return "more are listed than can be";
+    for (uint32_t i = 0; i < UPLINK_LISTED; i++) {
+        slot = uplink_field(answer, 1 + 2 * i), bytes = uplink_field(answer, 2 + 2 * i);
+        if (i >= count) {
+            if (slot != 0 || bytes != 0)
+                return "a field behind the last listed is not 0";
+            continue;
+        }
+        if (slot >= UPLINK_SLOTS || bytes == 0 || bytes > UPLINK_ROOM * UPLINK_LONGEST)
+            return "a listed channel has no such slot or bytes";
+        if (bytes > bytes_before || (bytes == bytes_before && slot <= slot_before))
+            return "the list is out of turn";
+        slot_before = slot, bytes_before = bytes;
+    }
+    return NULL;
+}
+
 /* What is wrong with a call, or NULL. */
 static const char *fault(const struct call *c, const uint8_t *before, const struct left *left)
 {
@@ -161,7 +191,7 @@ static const char *fault(const struct call *c, const uint8_t *before, const stru
                                                                          : NULL;
     if (c->kind <= UNPARK && c->state_length != UPLINK_STATE_LENGTH && left->number != UPLINK_UNSOUND)
         return "a state of wrong length is taken";
-    if (!kept && (refused || c->kind == ASK || c->kind > UNPARK))
+    if (!kept && (refused || c->kind == ASK || c->kind == FULLEST || c->kind > UNPARK))
         return "the state is changed";
     if (!image_kept && (refused || c->kind != PARK))
         return "the image is changed";
@@ -169,6 +199,8 @@ static const char *fault(const struct call *c, const uint8_t *before, const stru
         return "a refusal leaves a field that is not 0";
     if (c->kind == START)
         return start_fault(c, left);
+    if (c->kind == FULLEST && !refused)
+        return fullest_fault(left->answer);
     if (c->kind == PARK && !refused)
         return park_fault(c, before, left);
     if (c->kind == UNPARK && !refused && left->state[MARK] != 0)
@@ -208,7 +240,7 @@ static void everywhere(const struct call *c, const uint8_t *before, struct left 
 
 struct step {
     enum kind kind;
-    uint32_t numbers[4], number, fields[7];
+    uint32_t numbers[4], number, fields[1 + 2 * UPLINK_LISTED];
 };
 
 /* The length of a record that costs half a grant. */
@@ -222,18 +254,20 @@ static const struct step script[] = {
     {PUT, {1, 1, 600, 8}, 0, {0, 1}},
     {PUT, {1, 1, 500, 9}, 0, {1, 2}},
     {NEXT, {0}, 0, {1, 1, 600, 8, 0, 1, 1}},
-    {ASK, {1, 1}, 0, {1, 2, UPLINK_GRANTED - 600 - UPLINK_FRAMING, 1}},
+    {ASK, {1, 1}, 0, {1, 2, UPLINK_GRANTED - 600 - UPLINK_FRAMING, 1, 500}},
+    {FULLEST, {0}, 0, {2, 0, 1014, 1, 500}},
     {NEXT, {0}, 0, {0, 1, 1014, 7, 0, 1, 1}},
     {CLOSE, {0, 1}, 0, {1}},
     {NEXT, {0}, 0, {1, 1, 500, 9, 1, 1, 1}},
     {NEXT, {0}, UPLINK_NONE_WAITS, {0}},
+    {FULLEST, {0}, 0, {0}},
     {CLOSE, {0, 1}, UPLINK_NOT_PRESENT, {0}},
     {OPEN, {3}, 0, {0, 2}},
     {START, {0}, UPLINK_BAD_EDITION, {0}},
     {START, {3}, UPLINK_BAD_EDITION, {0}},
     {START, {257}, UPLINK_BAD_EDITION, {0}},
     {START, {UINT32_MAX}, UPLINK_BAD_EDITION, {0}},
-    {ASK, {0, 2}, 0, {1, 3, 0, 0}},
+    {ASK, {0, 2}, 0, {1, 3, 0, 0, 0}},
 
     {START, {2}, 0, {0}},
     {OPEN, {3}, 0, {0, 1}},
@@ -242,13 +276,14 @@ static const struct step script[] = {
     {CLOSE, {0, 1}, 0, {0}},
     {CLOSE, {0, 1}, UPLINK_AT_CLOSING, {0}},
     {PUT, {0, 1, 100, 3}, UPLINK_AT_CLOSING, {0}},
-    {ASK, {0, 1}, 0, {2, 3, 0, 2}},
+    {ASK, {0, 1}, 0, {2, 3, 0, 2, 500}},
+    {FULLEST, {0}, 0, {1, 0, 500}},
     {NEXT, {0}, 0, {0, 1, 200, 1, 0, 1, 1}},
     {NEXT, {0}, 0, {0, 1, 300, 0xfedcba98, 1, 0, 0}},
     {OPEN, {3}, 0, {0, 2}},
     {PUT, {0, 2, 400, 3}, 0, {0, 1}},
     {CLOSE, {0, 1}, UPLINK_NOT_PRESENT, {0}},
-    {ASK, {0, 2}, 0, {1, 3, 0, 1}},
+    {ASK, {0, 2}, 0, {1, 3, 0, 1, 400}},
     {ASK, {0, 1}, UPLINK_NOT_PRESENT, {0}},
     {NEXT, {0}, 0, {0, 2, 400, 3, 0, 1, 1}},
 
@@ -256,7 +291,7 @@ static const struct step script[] = {
     {PUT, {0, 2, HALF, 4}, 0, {1, 1}},
     {PUT, {0, 2, HALF, 5}, 0, {2, 2}},
     {NEXT, {0}, 0, {0, 2, HALF, 4, 1, 1, 1}},
-    {ASK, {0, 2}, 0, {1, 3, UPLINK_GRANTED / 2, 1}},
+    {ASK, {0, 2}, 0, {1, 3, UPLINK_GRANTED / 2, 1, HALF}},
     {NEXT, {0}, 0, {0, 2, HALF, 5, 2, 0, 0}},
     {PUT, {0, 2, HALF, 6}, 0, {3, 1}},
     {PUT, {0, 2, HALF + 1, 7}, 0, {4, 2}},
@@ -273,6 +308,34 @@ static const struct step script[] = {
     {PUT, {UPLINK_SLOTS, 1, 1, 7}, UPLINK_NO_SLOT, {0}},
     {CLOSE, {UPLINK_SLOTS, 1}, UPLINK_NO_SLOT, {0}},
     {ASK, {UPLINK_SLOTS, 1}, UPLINK_NO_SLOT, {0}},
+
+    /* Who is filling up: six channels, two of them level, the last one left out until one of the five has sent what it had. */
+    {START, {2}, 0, {0}},
+    {OPEN, {1}, 0, {0, 1}},
+    {OPEN, {1}, 0, {1, 1}},
+    {OPEN, {1}, 0, {2, 1}},
+    {OPEN, {1}, 0, {3, 1}},
+    {OPEN, {1}, 0, {4, 1}},
+    {OPEN, {1}, 0, {5, 1}},
+    {OPEN, {1}, 0, {6, 1}},
+    {FULLEST, {0}, 0, {0}},
+    {PUT, {6, 1, 1000, 1}, 0, {0, 1}},
+    {PUT, {5, 1, 300, 2}, 0, {0, 1}},
+    {PUT, {3, 1, 100, 3}, 0, {0, 1}},
+    {PUT, {3, 1, 200, 4}, 0, {1, 2}},
+    {PUT, {4, 1, 299, 5}, 0, {0, 1}},
+    {FULLEST, {0}, 0, {4, 6, 1000, 3, 300, 5, 300, 4, 299}},
+    {PUT, {0, 1, 1, 6}, 0, {0, 1}},
+    {PUT, {1, 1, 1, 7}, 0, {0, 1}},
+    {FULLEST, {0}, 0, {5, 6, 1000, 3, 300, 5, 300, 4, 299, 0, 1}},
+    {CLOSE, {6, 1}, 0, {0}},
+    {FULLEST, {0}, 0, {5, 6, 1000, 3, 300, 5, 300, 4, 299, 0, 1}},
+    {NEXT, {0}, 0, {6, 1, 1000, 1, 0, 1, 1}},
+    {FULLEST, {0}, 0, {5, 3, 300, 5, 300, 4, 299, 0, 1, 1, 1}},
+    {NEXT, {0}, 0, {5, 1, 300, 2, 0, 1, 0}},
+    {FULLEST, {0}, 0, {4, 3, 300, 4, 299, 0, 1, 1, 1}},
+    {PUT, {2, 1, UPLINK_LONGEST, 8}, 0, {0, 1}},
+    {FULLEST, {0}, 0, {5, 2, UPLINK_LONGEST, 3, 300, 4, 299, 0, 1, 1, 1}},
 
     {TERM, {4, 8}, 0, {4}},
     {TERM, {UPLINK_COLUMNS, UPLINK_HEAVIEST}, 0, {1}},
@@ -331,6 +394,7 @@ static const struct step parked[] = {
     {CLOSE, {0, 1}, UPLINK_PARKED, {0}},
     {NEXT, {0}, UPLINK_PARKED, {0}},
     {ASK, {UPLINK_SLOTS, 1}, UPLINK_PARKED, {0}},
+    {FULLEST, {0}, UPLINK_PARKED, {0}},
     {TERM, {4, 8}, 0, {4}},
     {LEAD, {3, 2, 2, 3}, 0, {5, 0}},
     {UNPARK, {0}, UPLINK_BAD_IMAGE, {0}},
@@ -338,7 +402,9 @@ static const struct step parked[] = {
     {UNPARK, {ONE + 1}, UPLINK_BAD_IMAGE, {0}},
     {NEXT, {0}, UPLINK_PARKED, {0}},
     {UNPARK, {ONE}, 0, {0}},
+    {FULLEST, {0}, 0, {1, 0, 600}},
     {PUT, {0, 1, 100, 9}, 0, {1, 2}},
+    {FULLEST, {0}, 0, {1, 0, 700}},
     {NEXT, {0}, 0, {0, 1, 600, 8, 0, 1, 1}},
     /* Over a state that goes on: what it had is lost. */
     {UNPARK, {ONE}, 0, {0}},
@@ -386,7 +452,7 @@ static void given(uint32_t slot, uint32_t records)
    full channel frees one for another, which takes a third record. */
 static void run_full(uint32_t edition)
 {
-    enum { BEYOND = UPLINK_ROOM - UPLINK_KEPT, FULL = UPLINK_SHARED / BEYOND, REST = UPLINK_SHARED % BEYOND + UPLINK_KEPT };
+    enum { BEYOND = UPLINK_ROOM - UPLINK_KEPT, FULL = UPLINK_SHARED / BEYOND, REST = UPLINK_SHARED % BEYOND + UPLINK_KEPT, MOST = UPLINK_ROOM * UPLINK_LONGEST };
     known((struct step){START, {edition}, 0, {0}});
     for (uint32_t slot = 0; slot < UPLINK_SLOTS; slot++) {
         known((struct step){OPEN, {1}, 0, {slot, 1}});
@@ -404,6 +470,8 @@ static void run_full(uint32_t edition)
     memset(kept, PAINT, UPLINK_STATE_LENGTH);
     known((struct step){UNPARK, {UPLINK_IMAGE_LENGTH - 1}, UPLINK_BAD_IMAGE, {0}});
     known((struct step){UNPARK, {UPLINK_IMAGE_LENGTH}, 0, {0}});
+    known((struct step){FULLEST, {0}, 0, {5, 1, MOST, 2, MOST, 3, MOST, 4, MOST, 5, MOST}});
+    known((struct step){ASK, {1, 1}, 0, {1, 1, 0, UPLINK_ROOM, MOST}});
     known((struct step){PUT, {0, 1, 1, 7}, UPLINK_NO_SHARED, {0}});
 }
 
@@ -465,8 +533,8 @@ static void to_parking(struct call *c)
 /* Most calls can be accepted; one in sixteen has another length of state or answer, one in 2,000 is Start. */
 static struct call any_call(void)
 {
-    static const enum kind kinds[16] = {OPEN, OPEN, PUT, PUT, PUT, PUT, PUT, PUT, CLOSE, NEXT, NEXT, NEXT, NEXT, ASK, LEAD, TERM};
-    struct call c = {below(2000) == 0 ? START : kinds[below(16)], {0}, UPLINK_STATE_LENGTH, 0, 0, NULL};
+    static const enum kind kinds[17] = {OPEN, OPEN, PUT, PUT, PUT, PUT, PUT, PUT, CLOSE, NEXT, NEXT, NEXT, NEXT, ASK, FULLEST, LEAD, TERM};
+    struct call c = {below(2000) == 0 ? START : kinds[below(17)], {0}, UPLINK_STATE_LENGTH, 0, 0, NULL};
     if (below(kept[MARK] == 1 ? 4 : 100) == 0)
         to_parking(&c);
     c.answer_length = right[c.kind];
@@ -482,7 +550,7 @@ static struct call any_call(void)
 }
 
 /* Of each kind at least one call in so many of all must be accepted; with the library it is twice as many. */
-static const unsigned long one_in[KINDS] = {6000, 75, 20, 120, 20, 120, 600, 320, 40, 250};
+static const unsigned long one_in[KINDS] = {6000, 75, 20, 120, 20, 120, 40, 600, 320, 40, 250};
 
 /* They begin in an edition with every cell taken, and go on from there again after one Start in three, so that some meet no shared cell; a Start among them may
    take the other edition. */
@@ -498,7 +566,7 @@ static void run_at_random(unsigned long calls, uint32_t edition)
         memcpy(before, kept, sizeof kept);
         /* One call in 64 meets a changed byte. */
         if (below(64) == 0)
-            before[below(4) ? below(HEADS) : below(UPLINK_STATE_LENGTH)] ^= (uint8_t)(1 << below(8));
+            before[below(4) ? below(HEADS) : below(2) ? below(UPLINK_STATE_LENGTH) : UPLINK_STATE_LENGTH - 1 - below(NOTES)] ^= (uint8_t)(1 << below(8));
         everywhere(&c, before, &left);
         none_shared += left.number == UPLINK_NO_SHARED;
         if (left.number == UPLINK_ACCEPTED) {

@@ -10,10 +10,11 @@
 
 #include "plain.h"
 
-enum { ROOM = 1 << 16, PAINT = 0xA5, ENOUGH = 512, UNPARK_ENOUGH = 9216, PLAIN_ENOUGH = 8192 };
-enum kind { NONE, START, OPEN, PUT, CLOSE, NEXT, ASK, LEAD, TERM, PARK, UNPARK, PLAIN_PUT, PLAIN_NEXT, KINDS };
+enum { ROOM = 1 << 16, PAINT = 0xA5, ENOUGH = 2048, UNPARK_ENOUGH = 10240, PLAIN_ENOUGH = 8192 };
+enum kind { NONE, START, OPEN, PUT, CLOSE, NEXT, ASK, FULLEST, LEAD, TERM, PARK, UNPARK, PLAIN_PUT, PLAIN_NEXT, KINDS };
 
-static const char *const names[KINDS] = {"", "start", "open", "put", "close", "next", "ask", "lead", "term", "park", "unpark", "plain_put", "plain_next"};
+static const char *const names[KINDS] = {"", "start", "open", "put", "close", "next", "ask", "fullest", "lead", "term",
+                                        "park", "unpark", "plain_put", "plain_next"};
 static unsigned char stack[ROOM];
 static uint8_t state[UPLINK_STATE_LENGTH], image[UPLINK_IMAGE_LENGTH], answer[64];
 static uint32_t image_length;
@@ -30,6 +31,7 @@ static void call(void)
     case CLOSE: uplink_close(state, sizeof state, slot, ticket, answer, UPLINK_CLOSE_LENGTH); break;
     case NEXT: uplink_next(state, sizeof state, answer, UPLINK_NEXT_LENGTH); break;
     case ASK: uplink_ask(state, sizeof state, slot, ticket, answer, UPLINK_ASK_LENGTH); break;
+    case FULLEST: uplink_fullest(state, sizeof state, answer, UPLINK_FULLEST_LENGTH); break;
     case LEAD: uplink_lead(1, 2, 3, 4, answer, UPLINK_LEAD_LENGTH); break;
     case TERM: uplink_term(4, 8, answer, UPLINK_TERM_LENGTH); break;
     case PARK:
@@ -78,7 +80,7 @@ static enum kind by_matrix(enum kind kind)
 int main(void)
 {
     /* The first Put joins the rows. */
-    const enum kind calls[] = {OPEN, ASK, PUT, PUT, PARK, UNPARK, NEXT, NEXT, NEXT, NEXT, NEXT, NEXT, NEXT, NEXT, CLOSE, LEAD, TERM, START};
+    const enum kind calls[] = {OPEN, ASK, PUT, PUT, FULLEST, PARK, UNPARK, NEXT, NEXT, NEXT, NEXT, NEXT, NEXT, NEXT, NEXT, CLOSE, LEAD, TERM, START};
     long none = touched(NONE), most[KINDS] = {0};
     int wrong = 0;
     /* In edition 2 twice: the second time a heavy row leaves with the first Next, and the others go through a round's end. All again with support's engine. */

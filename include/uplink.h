@@ -14,8 +14,9 @@
  *
  * Work: a call reads the state about once; uplink_put and uplink_next then move up to 3,066 bytes of it by one place;
  * uplink_park writes the image once, and uplink_unpark reads it, writes it again to compare, and writes the state.
- * Every loop has a bound, whatever bytes are lent; no call allocates, blocks, recurses or keeps a pointer. Stack: 512
- * bytes are enough for any call but uplink_unpark, for which 9,216 are: it builds the state aside before it writes.
+ * Every loop has a bound, whatever bytes are lent; no call allocates, blocks, recurses or keeps a pointer. Stack:
+ * 2,048 bytes are enough for any call but uplink_unpark, for which 10,240 are: it builds the state aside before it
+ * writes.
  *
  * Interrupts and threads: there is no static data, so calls on different states may interrupt each other or run at the
  * same time. On one state only one call may be under way: whoever makes a call from an interrupt has to be sure that it
@@ -35,16 +36,17 @@ extern "C" {
 #endif
 
 /* Version of this interface: major * 10000 + minor * 100 + patch. */
-#define UPLINK_VERSION 30100
+#define UPLINK_VERSION 40000
 
 /* Lengths in bytes of the lent state, of the longest image and of each call's answer. */
-#define UPLINK_STATE_LENGTH 3968
+#define UPLINK_STATE_LENGTH 4102
 #define UPLINK_IMAGE_LENGTH 3924
 #define UPLINK_OPEN_LENGTH 8
 #define UPLINK_PUT_LENGTH 8
 #define UPLINK_CLOSE_LENGTH 4
 #define UPLINK_NEXT_LENGTH 28
-#define UPLINK_ASK_LENGTH 16
+#define UPLINK_ASK_LENGTH 20
+#define UPLINK_FULLEST_LENGTH 44
 #define UPLINK_PARK_LENGTH 4
 #define UPLINK_LEAD_LENGTH 8
 #define UPLINK_TERM_LENGTH 4
@@ -71,6 +73,9 @@ extern "C" {
 #define UPLINK_ROOM 64
 #define UPLINK_KEPT 2
 #define UPLINK_SHARED 384
+
+/* Of the fullest channels so many are listed at the most. */
+#define UPLINK_LISTED 5
 
 /* References are 0 to UPLINK_REFERENCES - 1. Serials are 0 to UPLINK_SERIALS - 1, and then 0 again. */
 #define UPLINK_REFERENCES 4294967296
@@ -136,9 +141,19 @@ uint32_t uplink_close(uint8_t *state, size_t state_length, uint32_t slot, uint32
  */
 uint32_t uplink_next(uint8_t *state, size_t state_length, uint8_t *answer, size_t answer_length);
 
-/* Tells of a channel, and changes nothing. Answer: 1 for open or 2 for closing, weight, deficit, number waiting. */
+/*
+ * Tells of a channel, and changes nothing. Answer: 1 for open or 2 for closing, weight, deficit, number waiting, bytes
+ * waiting: the lengths of its records together, without framing.
+ */
 uint32_t uplink_ask(const uint8_t *state, size_t state_length, uint32_t slot, uint32_t ticket, uint8_t *answer,
                     size_t answer_length);
+
+/*
+ * Tells who is filling up, and changes nothing. Answer: how many channels are listed, 0 to UPLINK_LISTED; then their
+ * slots and bytes waiting, slot, bytes, slot, bytes, and 0 behind the last, so that there are always eleven fields. The
+ * channel with most bytes comes first, on a tie the one in the lower slot; channels with none are left out.
+ */
+uint32_t uplink_fullest(const uint8_t *state, size_t state_length, uint8_t *answer, size_t answer_length);
 
 /*
  * Parks the state: its image is written to the beginning of a lent buffer of image_length bytes, whose other bytes are

@@ -1,6 +1,8 @@
 //! The answers of the calls and the numbers sent back (document 01, "The calls" and "Numbers sent back"; the longest length, the room and the
 //! numbers from 12 on are document 02's), for the independent scheduler: written from the documents, not taken from the wrapper.
 
+use crate::scheduler::LISTED;
+
 /// Why a call is refused: the documents' number, under the header's name. "Show that no sound state gives it .., then remove it": 9 is not used (document 02, §8).
 #[derive(Clone, Copy, Debug, PartialEq, Eq)]
 pub enum Refusal {
@@ -115,7 +117,20 @@ pub struct Told {
     pub weight: u32,
     pub deficit: u32,
     pub waiting: u32,
+    /// The bytes that wait, without framing.
+    pub bytes: u32,
 }
+
+/// One of the fullest channels: its slot and the bytes that wait there.
+#[derive(Clone, Copy, Debug, PartialEq, Eq)]
+pub struct Filling {
+    pub slot: u32,
+    pub bytes: u32,
+}
+
+/// What Fullest answers: the fullest channels, most bytes first.
+#[derive(Clone, Debug, PartialEq, Eq)]
+pub struct Fullest(pub Vec<Filling>);
 
 /// What the writer of the parked image answers: its length.
 #[derive(Clone, Copy, Debug, PartialEq, Eq)]
@@ -208,16 +223,32 @@ impl Fields for Told {
             Standing::Open => 1,
             Standing::Closing => 2,
         };
-        vec![standing, self.weight, self.deficit, self.waiting]
+        vec![standing, self.weight, self.deficit, self.waiting, self.bytes]
     }
 
     fn of(fields: &[u32]) -> Option<Told> {
-        let &[standing, weight, deficit, waiting] = fields else { return None };
+        let &[standing, weight, deficit, waiting, bytes] = fields else { return None };
         let standing = match standing {
             1 => Standing::Open,
             2 => Standing::Closing,
             _ => return None,
         };
-        Some(Told { standing, weight, deficit, waiting })
+        Some(Told { standing, weight, deficit, waiting, bytes })
+    }
+}
+
+/// How many are listed, then five times slot and bytes waiting, zeros behind the last.
+impl Fields for Fullest {
+    fn fields(&self) -> Vec<u32> {
+        let mut fields = vec![self.0.len() as u32];
+        fields.extend(self.0.iter().flat_map(|filling| [filling.slot, filling.bytes]));
+        fields.resize(1 + 2 * LISTED, 0);
+        fields
+    }
+
+    fn of(fields: &[u32]) -> Option<Fullest> {
+        let (&count, pairs) = fields.split_first()?;
+        let fillings = pairs.chunks_exact(2).take(count as usize).map(|pair| Filling { slot: pair[0], bytes: pair[1] });
+        Some(Fullest(fillings.collect())).filter(|fullest| fullest.fields() == fields)
     }
 }

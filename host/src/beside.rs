@@ -67,6 +67,10 @@ impl<A: Engine, B: Engine> Engine for Beside<A, B> {
         self.both(Call::Ask { slot, ticket }, state, answer)
     }
 
+    fn fullest(&mut self, state: &mut [u8], answer: &mut [u8]) -> u32 {
+        self.both(Call::Fullest, state, answer)
+    }
+
     fn park(&mut self, state: &mut [u8], image: &mut [u8], answer: &mut [u8]) -> u32 {
         self.both_with(Call::Park { room: image.len() }, state, image, answer)
     }

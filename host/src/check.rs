@@ -2,10 +2,10 @@
 //! It answers as [`crate::layout::is_sound_memory`] does, by another way, and is what the benchmark measures against.
 
 use crate::layout::{
-    Field, CELLS, COLUMN, DEFICIT, EDITION, KIND, LENGTH, LENGTHS, MARK, NEXT_SERIAL, NOTHING, ORDER, POSITION, REFERENCES, ROWS,
-    ROW_COUNT, TICKET, TO_VISIT, VISIT, WAITING, WEIGHT,
+    Field, BYTES, CELLS, COLUMN, DEFICIT, EDITION, KIND, LENGTH, LENGTHS, LIST, LIST_COUNT, MARK, NEXT_SERIAL, NOTHING, ORDER, POSITION,
+    REFERENCES, ROWS, ROW_COUNT, TICKET, TO_VISIT, VISIT, WAITING, WEIGHT,
 };
-use crate::scheduler::{COLUMNS, FRAMING, KEPT, LARGEST_WEIGHT, LONGEST, MOST_WAITING, SHARED, SLOTS};
+use crate::scheduler::{COLUMNS, FRAMING, KEPT, LARGEST_WEIGHT, LISTED, LONGEST, MOST_WAITING, SHARED, SLOTS};
 use crate::sound::{LARGEST_DEFICIT, LARGEST_IN_VISIT};
 
 /// What the check knows of one slot.
@@ -16,6 +16,8 @@ struct Slot {
     deficit: u64,
     /// What its head record costs.
     cost: u64,
+    /// The lengths of its records together.
+    bytes: u64,
 }
 
 pub fn record_by_record(bytes: &[u8]) -> bool {
@@ -41,7 +43,7 @@ pub fn record_by_record(bytes: &[u8]) -> bool {
             return false;
         }
     }
-    rows_hold(bytes, &slots) && scan_holds(bytes, &slots)
+    rows_hold(bytes, &slots) && scan_holds(bytes, &slots) && list_holds(bytes, &slots)
 }
 
 /// The number in a lane of a field.
@@ -70,10 +72,16 @@ fn check_slot(bytes: &[u8], slot: usize, cell: usize) -> Option<Slot> {
     if !holds || waiting > MOST_WAITING {
         return None;
     }
+    let mut sum = 0;
     for at in cell..cell + waiting {
-        if !(1..=LONGEST).contains(&number(bytes, &LENGTHS, at)) {
+        let length = number(bytes, &LENGTHS, at);
+        if !(1..=LONGEST).contains(&length) {
             return None;
         }
+        sum += length;
+    }
+    if number(bytes, &BYTES, slot) != sum {
+        return None;
     }
     let cost = if waiting > 0 { number(bytes, &LENGTHS, cell) + FRAMING } else { 0 };
     let in_visit = small(bytes, &VISIT, 0) == slot + 1;
@@ -82,7 +90,7 @@ fn check_slot(bytes: &[u8], slot: usize, cell: usize) -> Option<Slot> {
         (_, true) => LARGEST_IN_VISIT,
         (_, false) => LARGEST_DEFICIT,
     };
-    (deficit <= most).then_some(Slot { waiting, weight, deficit, cost })
+    (deficit <= most).then_some(Slot { waiting, weight, deficit, cost, bytes: sum })
 }
 
 /// Each slot with records is a row once, no other is; zeros follow; the order is that of their weights, or in edition 2 at least that and at most 12.
@@ -134,4 +142,26 @@ fn scan_holds(bytes: &[u8], slots: &[Slot; SLOTS]) -> bool {
         }
     }
     visit <= SLOTS
+}
+
+/// Each listed slot has bytes and stands ahead of the next, as many are listed as can be, and no slot that is left out stands ahead of the last; zeros follow.
+fn list_holds(bytes: &[u8], slots: &[Slot; SLOTS]) -> bool {
+    let count = small(bytes, &LIST_COUNT, 0);
+    let filled = slots.iter().filter(|slot| slot.bytes > 0).count();
+    if count != filled.min(LISTED) {
+        return false;
+    }
+    let (list, behind) = bytes[LIST.places()].split_at(count);
+    if list.iter().any(|&slot| usize::from(slot) >= SLOTS) || behind.iter().any(|&byte| byte != 0) {
+        return false;
+    }
+    let ahead = |one: usize, other: usize| {
+        let (more, less) = (slots[one].bytes, slots[other].bytes);
+        more > less || (more == less && one < other)
+    };
+    let in_turn = list.windows(2).all(|two| ahead(usize::from(two[0]), usize::from(two[1])));
+    let Some(&last) = list.last() else { return true };
+    let last = usize::from(last);
+    let left_out = |slot: &usize| !list.contains(&(*slot as u8));
+    in_turn && slots[last].bytes > 0 && (0..SLOTS).filter(left_out).all(|slot| ahead(last, slot))
 }

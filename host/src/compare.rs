@@ -73,7 +73,7 @@ impl Pair {
     fn call<E: Engine + ?Sized>(&mut self, engine: &mut E, call: &Call) -> Result<(), String> {
         let mut image = Lent::new(&call.image());
         let (number, expected_answer, expected_image) = self.expect(call);
-        let mut answer = Lent::new(&[UNWRITTEN; 28][..call.answer_length()]);
+        let mut answer = Lent::new(&vec![UNWRITTEN; call.answer_length()]);
         let given = engine.call(call, self.lent.content(), image.content(), answer.content());
         parted(engine)?;
         if given != number {
@@ -185,6 +185,7 @@ pub fn state_call(scheduler: &mut Scheduler, call: &Call) -> Result<Vec<u32>, Re
         Call::Close { slot, ticket } => scheduler.close_sound(slot, ticket).map(|done| done.fields()),
         Call::Next => scheduler.next_sound().map(|done| done.fields()),
         Call::Ask { slot, ticket } => scheduler.ask_sound(slot, ticket).map(|done| done.fields()),
+        Call::Fullest => scheduler.fullest_sound().map(|done| done.fields()),
         Call::Start { edition } => Scheduler::start(edition).map(|fresh| {
             *scheduler = fresh;
             Vec::new()

@@ -1,12 +1,16 @@
-//! Memories that break a rule of soundness, by name: each rule alone where that can be, and bytes that stand for nothing; and images that are none.
+//! Memories that break a rule of soundness, by name: each rule alone where that can be, notes that the records do not bear out, and bytes that stand for nothing; and
+//! images that are none.
 
 use crate::image::{image_of, read, HEAD};
-use crate::layout::{self, CELLS, EDITION, KIND, LENGTHS, MARK, NOTHING, REFERENCES, ROWS, ROW_COUNT, VISIT, WAITING};
+use crate::layout::{
+    self, BYTES, CELLS, EDITION, KIND, LENGTHS, LIST, LIST_COUNT, MARK, NOTHING, REFERENCES, ROWS, ROW_COUNT, VISIT, WAITING,
+};
+use crate::notes::Notes;
 use crate::pool::{beyond_the_limit, full};
 use crate::random::Random;
-use crate::scheduler::{Kind, Record, Scheduler, EDITIONS, FRAMING};
+use crate::scheduler::{fullest_of, Kind, Record, Scheduler, EDITIONS, FRAMING, SLOTS};
 use crate::sound::Rule;
-use crate::states::{door, rich};
+use crate::states::{door, filling, rich};
 
 /// A sound state changed so that it breaks exactly these rules.
 #[derive(Clone)]
@@ -290,9 +294,146 @@ fn of_no_mark() -> Vec<Breakage> {
     ]
 }
 
-/// Memories with a single wrong byte, in both editions: bytes that stand for nothing, and values that no state has.
+/// The notes of a state, wrong in one thing, or in two that agree: a sum off by a byte, by framing or by a whole record; two places of the list exchanged, in a tie
+/// where there is one; one listed too many or too few; a slot listed that has no bytes, or fewer than one that is left out; sums that are another's, with the list
+/// that goes with them. Some that cannot be made wrong so stay right.
+pub fn other_notes(random: &mut Random, state: &Scheduler) -> Notes {
+    let mut notes = Notes::of(state);
+    let rows: Vec<usize> = if state.rows.is_empty() { vec![0] } else { state.rows.clone() };
+    let (slot, other, any) = (random.pick(&rows), random.pick(&rows), random.below(SLOTS as u64) as usize);
+    let bytes = notes.bytes.clone();
+    let listed = notes.listed.len();
+    // Places of the list that are level with the next.
+    let ties: Vec<usize> = (1..listed).filter(|&at| bytes[notes.listed[at - 1]] == bytes[notes.listed[at]]).map(|at| at - 1).collect();
+    match random.below(9) {
+        0 => {
+            let (records, framing) = (state.channels[slot].records.len() as u64, FRAMING);
+            let more =
+                random.pick(&[1, 256, framing, framing * records, state.channels[slot].records.front().map_or(1, |head| head.length)]);
+            let less = bytes[slot].saturating_sub(more);
+            notes.bytes[slot] = random.pick(&[bytes[slot] + more, less]);
+        }
+        1 => notes.bytes[any] = random.pick(&[bytes[any] ^ 1, bytes[slot], 0]),
+        2 => {
+            notes.bytes.swap(slot, other);
+            notes.listed = fullest_of(&notes.bytes);
+        }
+        3 => {
+            notes.bytes[slot] += random.pick(&[1, FRAMING]);
+            notes.listed = fullest_of(&notes.bytes);
+        }
+        4 if listed > 1 => {
+            let place = random.below(listed as u64 - 1) as usize;
+            notes.listed.swap(place, place + 1);
+        }
+        8 if !ties.is_empty() => {
+            let place = random.pick(&ties);
+            notes.listed.swap(place, place + 1);
+        }
+        5 if listed > 0 => {
+            notes.listed.pop();
+        }
+        6 => notes.listed.push(random.pick(&[0, slot, any])),
+        _ if listed > 0 => {
+            let place = random.pick(&[0, listed - 1, listed - 1]);
+            notes.listed[place] = random.pick(&[slot, any, SLOTS, 255]);
+        }
+        _ => notes.listed.push(any),
+    }
+    notes
+}
+
+/// Sound states whose notes are not what the records say, in both editions: which of the two rules each breaks, as far as its notes can be read.
+pub fn wrong_notes() -> Vec<(&'static str, &'static [Rule], Vec<u8>)> {
+    EDITIONS.into_iter().flat_map(wrong_notes_of).collect()
+}
+
+fn wrong_notes_of(edition: u64) -> Vec<(&'static str, &'static [Rule], Vec<u8>)> {
+    // Its fullest are 5, 3, 1, 63 and 9; no other has records.
+    let of_rich = |name, rules, change: fn(&mut Notes)| noted(name, rules, rich(edition), change);
+    // Its fullest are 9, 2, 4, 7 and 11, the last four alike and like 13; then 20 and 30.
+    let of_filling = |name, rules, change: fn(&mut Notes)| noted(name, rules, filling(edition), change);
+    let of_few = |name, rules, change: fn(&mut Notes)| {
+        let one = Scheduler { edition, order: 1, ..door(1, 0, &[7, 8]) };
+        noted(name, rules, one, change)
+    };
+    let fresh = |name, rules, change: fn(&mut Notes)| noted(name, rules, Scheduler::fresh(edition), change);
+    let (sums, list, both) = (&[Rule::Bytes][..], &[Rule::Fullest][..], &[Rule::Bytes, Rule::Fullest][..]);
+    vec![
+        of_rich("a sum is a byte too high", sums, |notes| notes.bytes[1] += 1),
+        of_rich("a sum is a byte too low", sums, |notes| notes.bytes[63] -= 1),
+        of_rich("a sum is 256 bytes too high", sums, |notes| notes.bytes[5] += 256),
+        of_rich("a sum has the framing of its head", sums, |notes| notes.bytes[1] += 10),
+        of_rich("a sum has framing", sums, |notes| notes.bytes[5] += 640),
+        of_rich("every sum has framing", sums, |notes| {
+            for (slot, records) in [(1, 2), (3, 3), (5, 64), (9, 1), (63, 2)] {
+                notes.bytes[slot] += 10 * records;
+            }
+        }),
+        of_rich("a sum without its head", sums, |notes| notes.bytes[3] -= 1),
+        of_rich("a sum without its last record", sums, |notes| notes.bytes[5] -= 64),
+        of_rich("a sum where no record waits", sums, |notes| notes.bytes[2] = 1),
+        of_rich("a sum in a free slot", sums, |notes| notes.bytes[0] = 1),
+        of_rich("a sum in the last free slot", sums, |notes| notes.bytes[62] = 65_535),
+        of_rich("a byte more in one sum, and one less in another", sums, |notes| {
+            notes.bytes[1] += 1;
+            notes.bytes[3] -= 1;
+        }),
+        of_rich("sums exchanged", sums, |notes| notes.bytes.swap(1, 3)),
+        of_rich("sums of the neighbours", sums, |notes| notes.bytes.rotate_left(1)),
+        of_rich("no sums", sums, |notes| notes.bytes.fill(0)),
+        fresh("a sum without channels", sums, |notes| notes.bytes[63] = 256),
+        of_rich("the list is empty", list, |notes| notes.listed.clear()),
+        of_rich("four are listed", list, |notes| notes.listed.truncate(4)),
+        of_rich("six are listed", list, |notes| notes.listed.push(0)),
+        of_rich("255 are listed", list, |notes| notes.listed.resize(255, 0)),
+        of_rich("two of the list exchanged", list, |notes| notes.listed.swap(0, 1)),
+        of_rich("the last two of the list exchanged", list, |notes| notes.listed.swap(3, 4)),
+        of_rich("the list from its end", list, |notes| notes.listed.reverse()),
+        of_rich("the list by slots", list, |notes| notes.listed.sort_unstable()),
+        of_rich("a listed slot without bytes", list, |notes| notes.listed[4] = 2),
+        of_rich("a listed slot that is free", list, |notes| notes.listed[4] = 0),
+        of_rich("a slot is listed twice", list, |notes| notes.listed[4] = 63),
+        of_rich("slot 64 is listed", list, |notes| notes.listed[4] = 64),
+        of_rich("slot 255 is listed", list, |notes| notes.listed[0] = 255),
+        of_filling("a tie by the higher slot", list, |notes| notes.listed.swap(1, 2)),
+        of_filling("the last tie by the higher slot", list, |notes| notes.listed.swap(3, 4)),
+        of_filling("a tie cut by the higher slot", list, |notes| notes.listed[4] = 13),
+        of_filling("a tie from its end", list, |notes| notes.listed[1..].reverse()),
+        of_filling("one listed for a fuller one", list, |notes| notes.listed[4] = 20),
+        of_filling("the first is missing", list, |notes| {
+            notes.listed.remove(0);
+            notes.listed.push(13);
+        }),
+        of_filling("four of eight are listed", list, |notes| notes.listed.truncate(4)),
+        of_few("an empty channel is listed behind the last", list, |notes| notes.listed.push(0)),
+        of_few("a free slot is listed behind the last", list, |notes| notes.listed.push(63)),
+        of_few("an empty channel is listed first", list, |notes| notes.listed.insert(0, 0)),
+        of_few("the only one is not listed", list, |notes| notes.listed.clear()),
+        fresh("a slot is listed where nothing waits", list, |notes| notes.listed.push(0)),
+        of_filling("the list goes by sums that are wrong", both, |notes| {
+            notes.bytes[13] += 1;
+            notes.listed = vec![9, 13, 2, 4, 7];
+        }),
+        of_rich("sums and list are another's", both, |notes| *notes = Notes::of(&filling(1))),
+        of_rich("no notes", both, |notes| {
+            notes.bytes.fill(0);
+            notes.listed.clear();
+        }),
+        fresh("notes of records that are not there", both, |notes| *notes = Notes::of(&rich(1))),
+    ]
+}
+
+fn noted(name: &'static str, rules: &'static [Rule], state: Scheduler, change: fn(&mut Notes)) -> (&'static str, &'static [Rule], Vec<u8>) {
+    let mut notes = Notes::of(&state);
+    change(&mut notes);
+    (name, rules, layout::with_notes(&state, &notes))
+}
+
+/// Memories that are wrong in their bytes alone, in both editions: in a single byte, where that stands for nothing or has a value that no state has, or in their notes.
 pub fn wrong_bytes() -> Vec<(&'static str, Vec<u8>)> {
-    EDITIONS.into_iter().flat_map(wrong_bytes_of).collect()
+    let notes = wrong_notes().into_iter().map(|(name, _, memory)| (name, memory));
+    EDITIONS.into_iter().flat_map(wrong_bytes_of).chain(notes).collect()
 }
 
 fn wrong_bytes_of(edition: u64) -> Vec<(&'static str, Vec<u8>)> {
@@ -341,5 +482,13 @@ fn wrong_bytes_of(edition: u64) -> Vec<(&'static str, Vec<u8>)> {
         ("a reference after the run, byte 2", set(&rich, REFERENCES.at(run, 2), 1)),
         ("a reference after the run, byte 3", set(&rich, REFERENCES.at(run, 3), 1)),
         ("a reference in the last cell", set(&fresh, REFERENCES.at(last, 3), 128)),
+        ("a length that its sum has not", set(&rich, LENGTHS.at(0, 0), 43)),
+        ("the low byte of a sum", set(&full, BYTES.at(63, 0), 0)),
+        ("the high byte of a sum", set(&full, BYTES.at(0, 1), 255)),
+        ("a number listed, fresh", set(&fresh, LIST_COUNT.start, 1)),
+        ("four listed of five", set(&rich, LIST_COUNT.start, 4)),
+        ("a slot behind an empty list", set(&fresh, LIST.at(0, 0), 1)),
+        ("a slot in the list's last place", set(&fresh, LIST.at(4, 0), 63)),
+        ("the last listed is another", set(&rich, LIST.at(4, 0), 137)),
     ]
 }

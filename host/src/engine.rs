@@ -10,6 +10,7 @@ pub trait Engine {
     fn close(&mut self, state: &mut [u8], slot: u32, ticket: u32, answer: &mut [u8]) -> u32;
     fn next(&mut self, state: &mut [u8], answer: &mut [u8]) -> u32;
     fn ask(&mut self, state: &mut [u8], slot: u32, ticket: u32, answer: &mut [u8]) -> u32;
+    fn fullest(&mut self, state: &mut [u8], answer: &mut [u8]) -> u32;
     fn park(&mut self, state: &mut [u8], image: &mut [u8], answer: &mut [u8]) -> u32;
     fn unpark(&mut self, state: &mut [u8], image: &mut [u8]) -> u32;
     fn lead(&mut self, w1: u32, v1: u32, w2: u32, v2: u32, answer: &mut [u8]) -> u32;
@@ -29,6 +30,7 @@ pub trait Engine {
             Call::Close { slot, ticket } => self.close(state, slot, ticket, answer),
             Call::Next => self.next(state, answer),
             Call::Ask { slot, ticket } => self.ask(state, slot, ticket, answer),
+            Call::Fullest => self.fullest(state, answer),
             Call::Park { .. } => self.park(state, image, answer),
             Call::Unpark { .. } => self.unpark(state, image),
             Call::Lead { w1, v1, w2, v2 } => self.lead(w1, v1, w2, v2, answer),

@@ -1,7 +1,7 @@
 //! Histories from seeds. A history is built beside a scheduler of its own, so that most calls are ones that can be accepted.
 
 use crate::compare::state_call;
-use crate::damage::{beyond_a_limit, no_image};
+use crate::damage::{beyond_a_limit, no_image, other_notes};
 use crate::history::{Call, History, Step};
 use crate::image::{image_of, LONGEST_IMAGE};
 use crate::layout;
@@ -40,7 +40,9 @@ pub fn history_of(shape: &'static Shape, edition: u64, seed: u64) -> History {
 pub fn commands(shape: &'static Shape, seed: u64) -> impl Iterator<Item = Call> {
     let (now, image) = (Scheduler::fresh(1), Vec::new());
     let mut builder = Builder { random: Random::new(seed), shape, now, sound: true, old: Vec::new(), image, steps: Vec::new() };
-    let of_lift = |action| !matches!(action, Action::Ask | Action::Apart | Action::Damage | Action::Mislent | Action::Park | Action::Start);
+    let of_lift = |action| {
+        !matches!(action, Action::Ask | Action::Fullest | Action::Apart | Action::Damage | Action::Mislent | Action::Park | Action::Start)
+    };
     let stretches = std::iter::from_fn(move || {
         builder.stretch(of_lift);
         Some(std::mem::take(&mut builder.steps))
@@ -110,7 +112,7 @@ impl Builder {
             Action::Damage => self.damage(),
             Action::Mislent => self.mislent(),
             Action::Park => self.park(),
-            Action::Close | Action::Next | Action::Ask | Action::Stale | Action::Bad | Action::Apart | Action::Start => {
+            Action::Close | Action::Next | Action::Ask | Action::Fullest | Action::Stale | Action::Bad | Action::Apart | Action::Start => {
                 let call = self.single(action);
                 self.push(call);
             }
@@ -186,6 +188,7 @@ impl Builder {
             Action::Put => Call::Put { slot, ticket, length: (self.shape.length)(&mut self.random), reference: self.reference() },
             Action::Close => Call::Close { slot, ticket },
             Action::Ask => Call::Ask { slot, ticket },
+            Action::Fullest => Call::Fullest,
             Action::Stale => self.stale(),
             Action::Bad => self.bad(),
             Action::Apart => self.apart(),
@@ -301,7 +304,17 @@ impl Builder {
 
     /// Any call of the shape's kind that takes a state.
     fn any_call(&mut self) -> Call {
-        let actions = [Action::Open, Action::Put, Action::Close, Action::Next, Action::Ask, Action::Stale, Action::Bad, Action::Park];
+        let actions = [
+            Action::Open,
+            Action::Put,
+            Action::Close,
+            Action::Next,
+            Action::Ask,
+            Action::Fullest,
+            Action::Stale,
+            Action::Bad,
+            Action::Park,
+        ];
         let action = self.random.pick(&actions);
         self.single(action)
     }
@@ -374,9 +387,10 @@ impl Builder {
     fn damage(&mut self) {
         let bytes = layout::to_bytes(&self.now);
         let mut damaged = bytes.clone();
-        match self.random.below(8) {
+        match self.random.below(11) {
             0 | 1 => damaged = layout::to_bytes(&beyond_a_limit(&mut self.random, &self.now)),
             2 | 3 => damaged = counted_elsewhere(&mut self.random, &self.now),
+            4..=6 => damaged = layout::with_notes(&self.now, &other_notes(&mut self.random, &self.now)),
             _ => {
                 let place = self.any_place();
                 damaged[place] ^= if self.random.chance(1, 2) { 1 << self.random.below(8) } else { self.random.from_to(1, 255) as u8 };
@@ -400,10 +414,11 @@ impl Builder {
     }
 
     fn any_place(&mut self) -> usize {
-        match self.random.below(4) {
+        match self.random.below(5) {
             0 => self.place_in(0..layout::LENGTHS.start),
             1 => self.place_in(layout::ROW_COUNT.start..layout::NOTHING.start),
             2 => self.place_in(layout::NOTHING.places()),
+            3 => self.place_in(layout::BYTES.start..layout::LENGTH),
             _ => self.place_in(0..layout::LENGTH),
         }
     }
@@ -424,7 +439,7 @@ impl Builder {
         };
         let right = call.answer_length();
         let whole = layout::LENGTH;
-        let state_lengths = [whole, 0, 1, 64, whole - 1, whole + 1, whole + 64, 2 * whole];
+        let state_lengths = [whole, 0, 1, 64, layout::REFERENCES.end(), whole - 1, whole + 1, whole + 64, 2 * whole];
         let answer_lengths = [right, 0, 1, right.saturating_sub(1), right + 1, right + 4, 2 * right, 64];
         // One of the two is often right, and never both.
         let (mut state_length, mut answer_length) = (self.random.pick(&state_lengths), self.random.pick(&answer_lengths));

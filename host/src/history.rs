@@ -29,6 +29,7 @@ pub enum Call {
         slot: u32,
         ticket: u32,
     },
+    Fullest,
     /// With a buffer of this length.
     Park {
         room: usize,
@@ -55,15 +56,16 @@ impl Call {
             Call::Start { .. } | Call::Unpark { .. } => 0,
             Call::Close { .. } | Call::Park { .. } | Call::Term { .. } => 4,
             Call::Open { .. } | Call::Put { .. } | Call::Lead { .. } => 8,
-            Call::Ask { .. } => 16,
+            Call::Ask { .. } => 20,
             Call::Next => 28,
+            Call::Fullest => 44,
         }
     }
 
     /// Its numbers, in the order of the C entry's parameters.
     pub fn numbers(&mut self) -> Vec<&mut u32> {
         match self {
-            Call::Next | Call::Park { .. } | Call::Unpark { .. } => Vec::new(),
+            Call::Next | Call::Fullest | Call::Park { .. } | Call::Unpark { .. } => Vec::new(),
             Call::Start { edition } => vec![edition],
             Call::Open { weight } => vec![weight],
             Call::Put { slot, ticket, length, reference } => vec![slot, ticket, length, reference],
@@ -101,6 +103,7 @@ impl fmt::Display for Call {
             Call::Close { slot, ticket } => write!(out, "C {slot} {ticket}"),
             Call::Next => write!(out, "N"),
             Call::Ask { slot, ticket } => write!(out, "# ask {slot} {ticket}"),
+            Call::Fullest => write!(out, "# fullest"),
             Call::Park { room } => write!(out, "# park with a buffer of {room} bytes"),
             Call::Unpark { image } => write!(out, "# unpark {} bytes: {}", image.len(), hexadecimal(image)),
             Call::Lead { w1, v1, w2, v2 } => write!(out, "# lead {w1} {v1} {w2} {v2}"),

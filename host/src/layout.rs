@@ -1,9 +1,10 @@
-//! The lent memory: 3,968 bytes, as docs/LAYOUT.md gives them. Cells are the places of one run of records, slot after slot and oldest first, so that
-//! a sound state has one memory.
+//! The lent memory: 4,102 bytes, as docs/LAYOUT.md gives them. Cells are the places of one run of records, slot after slot and oldest first, so that
+//! a sound state has one memory. Behind the records stand the notes of how full the channels are.
 //!
 //! The writer goes by the table of fields, the reader by lines of 64 bytes, so that a slip in one shows against the other.
 
-use crate::scheduler::{Channel, Kind, Record, Scan, Scheduler, SLOTS};
+use crate::notes::Notes;
+use crate::scheduler::{Channel, Kind, Record, Scan, Scheduler, LISTED, SLOTS};
 
 /// "byte j of lane i of a field" stands at start + lanes * j + i.
 pub struct Field {
@@ -36,13 +37,16 @@ pub const MARK: Field = EDITION.then("parked", 1, 1);
 pub const NOTHING: Field = MARK.then("nothing", LINE - MARK.end() % LINE, 1);
 pub const LENGTHS: Field = NOTHING.then("length", CELLS, 2);
 pub const REFERENCES: Field = LENGTHS.then("reference", CELLS, 4);
+pub const BYTES: Field = REFERENCES.then("bytes waiting", SLOTS, 2);
+pub const LIST_COUNT: Field = BYTES.then("number listed", 1, 1);
+pub const LIST: Field = LIST_COUNT.then("fullest", LISTED, 1);
 
 /// "Hold all records in 512 shared cells"
 pub const CELLS: usize = 512;
-pub const LENGTH: usize = REFERENCES.end();
+pub const LENGTH: usize = LIST.end();
 
 /// Every field, in the order of their places: together they are the whole memory.
-pub const FIELDS: [&Field; 18] = [
+pub const FIELDS: [&Field; 21] = [
     &ROWS,
     &KIND,
     &WAITING,
@@ -61,6 +65,9 @@ pub const FIELDS: [&Field; 18] = [
     &NOTHING,
     &LENGTHS,
     &REFERENCES,
+    &BYTES,
+    &LIST_COUNT,
+    &LIST,
 ];
 
 impl Field {
@@ -124,6 +131,17 @@ pub fn to_bytes(scheduler: &Scheduler) -> Vec<u8> {
 
 /// Writes the memory of a state over as many bytes of any content.
 pub fn write(scheduler: &Scheduler, bytes: &mut [u8]) {
+    write_with(scheduler, &Notes::of(scheduler), bytes);
+}
+
+/// The memory of a state with these notes, right or not.
+pub fn with_notes(scheduler: &Scheduler, notes: &Notes) -> Vec<u8> {
+    let mut bytes = vec![0; LENGTH];
+    write_with(scheduler, notes, &mut bytes);
+    bytes
+}
+
+fn write_with(scheduler: &Scheduler, notes: &Notes, bytes: &mut [u8]) {
     bytes.fill(0);
     let mut cell = 0;
     for (slot, channel) in scheduler.channels.iter().enumerate() {
@@ -146,6 +164,13 @@ pub fn write(scheduler: &Scheduler, bytes: &mut [u8]) {
     VISIT.write(bytes, 0, scan.visit.map_or(0, |slot| slot as u64 + 1));
     EDITION.write(bytes, 0, scheduler.edition);
     MARK.write(bytes, 0, scheduler.mark);
+    for (slot, &waiting) in notes.bytes.iter().enumerate() {
+        BYTES.write(bytes, slot, waiting);
+    }
+    LIST_COUNT.write(bytes, 0, notes.listed.len() as u64);
+    for (lane, &slot) in notes.listed.iter().enumerate() {
+        LIST.write(bytes, lane, slot as u64);
+    }
 }
 
 fn write_channel(channel: &Channel, slot: usize, bytes: &mut [u8]) {
@@ -162,7 +187,7 @@ fn write_channel(channel: &Channel, slot: usize, bytes: &mut [u8]) {
     NEXT_SERIAL.write(bytes, slot, channel.next_serial);
 }
 
-/// The state that a memory stands for, sound or not. None for another length and where no state can be meant: a kind above 2,
+/// The state that a memory stands for, sound or not, by what stands ahead of the notes. None for another length and where no state can be meant: a kind above 2,
 /// more than 64 rows, a visit above 64, more records than cells.
 pub fn from_bytes(bytes: &[u8]) -> Option<Scheduler> {
     if bytes.len() != LENGTH {
@@ -216,11 +241,25 @@ fn scan(line: &[u8]) -> Option<Scan> {
     Some(Scan { position, column: u64::from(line[4]), to_visit, visit })
 }
 
-/// The sound state whose memory this is, if it is one's: the length is right, it decodes, the state is sound, and writing it again gives
-/// the same bytes ("bytes that stand for nothing are 0").
+/// The notes of a memory, right or not: two lines of bytes waiting, low and high, then the number listed and their slots. None for another length and for a number
+/// above five.
+pub fn notes_from_bytes(bytes: &[u8]) -> Option<Notes> {
+    if bytes.len() != LENGTH {
+        return None;
+    }
+    let (_, notes) = bytes.split_at(14 * 64 + 6 * 512);
+    let (low, high, list) = (&notes[..64], &notes[64..128], &notes[129..]);
+    let waiting = low.iter().zip(high).map(|(&low, &high)| u64::from(low) + 256 * u64::from(high)).collect();
+    let listed = list.get(..usize::from(notes[128]))?.iter().map(|&slot| usize::from(slot)).collect();
+    Some(Notes { bytes: waiting, listed })
+}
+
+/// The sound state whose memory this is, if it is one's: the length is right, it decodes, the state is sound, its notes are what its records say, and writing it
+/// again gives the same bytes ("bytes that stand for nothing are 0").
 pub fn sound_from_bytes(bytes: &[u8]) -> Option<Scheduler> {
-    let scheduler = from_bytes(bytes)?;
-    (scheduler.sound() && to_bytes(&scheduler) == bytes).then_some(scheduler)
+    let (scheduler, notes) = (from_bytes(bytes)?, notes_from_bytes(bytes)?);
+    let right = Notes::of(&scheduler);
+    (scheduler.sound() && notes == right && with_notes(&scheduler, &right) == bytes).then_some(scheduler)
 }
 
 pub fn is_sound_memory(bytes: &[u8]) -> bool {

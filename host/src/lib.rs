@@ -1,6 +1,6 @@
 //! The scheduler's C entries compared with an independent scheduler.
 //!
-//! - [`scheduler`], [`steps`], [`sound`], [`spread`], [`answers`]: an independent scheduler, written from documents 01 and 02 over plain
+//! - [`scheduler`], [`steps`], [`sound`], [`notes`], [`spread`], [`answers`]: an independent scheduler, written from documents 01 and 02 over plain
 //!   structures.
 //! - [`layout`]: the lent memory, written from and read into that scheduler; [`check`]: the same question asked record by record; [`image`]: the parked image.
 //! - [`engine`], `linked` and `entries` (feature `linked`), [`model`], [`beside`], [`history`], [`lent`], [`compare`], [`shrink`]: an engine under test, or two that
@@ -30,6 +30,7 @@ pub mod lift;
 #[cfg(feature = "linked")]
 pub mod linked;
 pub mod model;
+pub mod notes;
 pub mod page;
 #[cfg(feature = "linked")]
 pub mod pictures;

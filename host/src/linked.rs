@@ -6,7 +6,8 @@ use std::path::Path;
 use std::process::Command;
 
 use uplink::entries::{
-    uplink_ask, uplink_close, uplink_lead, uplink_next, uplink_open, uplink_park, uplink_put, uplink_start, uplink_term, uplink_unpark,
+    uplink_ask, uplink_close, uplink_fullest, uplink_lead, uplink_next, uplink_open, uplink_park, uplink_put, uplink_start, uplink_term,
+    uplink_unpark,
 };
 
 use crate::beside::Beside;
@@ -15,8 +16,8 @@ use crate::entries::{plain_next, plain_put};
 
 /// The entries of one archive. Any lengths may be lent to them.
 ///
-/// Each call is safe: pointer and length are those of a slice that is lent for the call alone, and two exclusive slices never overlap. Ask too
-/// is lent memory that it could write, so that the comparer would see it.
+/// Each call is safe: pointer and length are those of a slice that is lent for the call alone, and two exclusive slices never overlap. Ask and Fullest too
+/// are lent memory that they could write, so that the comparer would see it.
 #[derive(Clone, Copy)]
 pub struct Entries {
     start: Start,
@@ -25,7 +26,9 @@ pub struct Entries {
     close: Close,
     next: Next,
     ask: Ask,
-    /// None in an archive from before document 02, §6.
+    /// None in an archive from before document 02, §7.
+    fullest: Option<Fullest>,
+    /// None in an archive from before §6.
     park: Option<Park>,
     unpark: Option<Unpark>,
     lead: Lead,
@@ -38,6 +41,7 @@ type Put = unsafe extern "C" fn(*mut u8, usize, u32, u32, u32, u32, *mut u8, usi
 type Close = unsafe extern "C" fn(*mut u8, usize, u32, u32, *mut u8, usize) -> u32;
 type Next = unsafe extern "C" fn(*mut u8, usize, *mut u8, usize) -> u32;
 type Ask = unsafe extern "C" fn(*const u8, usize, u32, u32, *mut u8, usize) -> u32;
+type Fullest = unsafe extern "C" fn(*const u8, usize, *mut u8, usize) -> u32;
 type Park = unsafe extern "C" fn(*mut u8, usize, *mut u8, usize, *mut u8, usize) -> u32;
 type Unpark = unsafe extern "C" fn(*mut u8, usize, *const u8, usize) -> u32;
 type Lead = unsafe extern "C" fn(u32, u32, u32, u32, *mut u8, usize) -> u32;
@@ -51,6 +55,7 @@ pub const LINKED: Entries = Entries {
     close: uplink_close,
     next: uplink_next,
     ask: uplink_ask,
+    fullest: Some(uplink_fullest),
     park: Some(uplink_park),
     unpark: Some(uplink_unpark),
     lead: uplink_lead,
@@ -101,6 +106,7 @@ impl Entries {
                 close: as_entry::<*mut c_void, Close>(symbol(c"uplink_close")?),
                 next: as_entry::<*mut c_void, Next>(symbol(c"uplink_next")?),
                 ask: as_entry::<*mut c_void, Ask>(symbol(c"uplink_ask")?),
+                fullest: symbol(c"uplink_fullest").ok().map(|found| as_entry::<*mut c_void, Fullest>(found)),
                 park: symbol(c"uplink_park").ok().map(|found| as_entry::<*mut c_void, Park>(found)),
                 unpark: symbol(c"uplink_unpark").ok().map(|found| as_entry::<*mut c_void, Unpark>(found)),
                 lead: as_entry::<*mut c_void, Lead>(symbol(c"uplink_lead")?),
@@ -133,6 +139,11 @@ impl Engine for Entries {
 
     fn ask(&mut self, state: &mut [u8], slot: u32, ticket: u32, answer: &mut [u8]) -> u32 {
         unsafe { (self.ask)(state.as_mut_ptr(), state.len(), slot, ticket, answer.as_mut_ptr(), answer.len()) }
+    }
+
+    fn fullest(&mut self, state: &mut [u8], answer: &mut [u8]) -> u32 {
+        let fullest = self.fullest.expect("the archive lists the fullest");
+        unsafe { fullest(state.as_mut_ptr(), state.len(), answer.as_mut_ptr(), answer.len()) }
     }
 
     fn park(&mut self, state: &mut [u8], image: &mut [u8], answer: &mut [u8]) -> u32 {

@@ -99,7 +99,11 @@ impl Engine for Model {
     }
 
     fn ask(&mut self, state: &mut [u8], slot: u32, ticket: u32, answer: &mut [u8]) -> u32 {
-        on(state, answer, 16, |scheduler| scheduler.ask_sound(slot, ticket))
+        on(state, answer, 20, |scheduler| scheduler.ask_sound(slot, ticket))
+    }
+
+    fn fullest(&mut self, state: &mut [u8], answer: &mut [u8]) -> u32 {
+        on(state, answer, 44, |scheduler| scheduler.fullest_sound())
     }
 
     fn park(&mut self, state: &mut [u8], image: &mut [u8], answer: &mut [u8]) -> u32 {

@@ -102,9 +102,9 @@ pub fn any_full_channel(random: &mut Random, edition: u64) -> Scheduler {
     any_with(random, edition, &waiting)
 }
 
-/// The memory with one record counted to another channel: the run stays as it is, one number of waiting records goes down, another up. At the limits 385
-/// shared cells may then be in use, or 65 records wait in a channel, and as many records as before. Half of the time it is counted to both channels: where every
-/// cell is taken, the last record has none.
+/// The memory with one record counted to another channel: the run stays as it is, one number of waiting records goes down, another up, and the notes go with them.
+/// At the limits 385 shared cells may then be in use, or 65 records wait in a channel, and as many records as before. Half of the time it is counted to both channels:
+/// where every cell is taken, the last record has none.
 pub fn counted_elsewhere(random: &mut Random, state: &Scheduler) -> Vec<u8> {
     let mut bytes = layout::to_bytes(state);
     let count = |slot: &usize| state.channels[*slot].records.len();
@@ -119,5 +119,22 @@ pub fn counted_elsewhere(random: &mut Random, state: &Scheduler) -> Vec<u8> {
         bytes[WAITING.at(from, 0)] -= u8::from(random.chance(1, 2));
         bytes[WAITING.at(to, 0)] += 1;
     }
-    bytes
+    layout::from_bytes(&bytes).map_or(bytes, |counted| layout::to_bytes(&counted))
+}
+
+/// Any sound state with a channel of 64 records of the longest length, or a record fewer, and few others beside it: 64,896 bytes wait there, and no channel can be
+/// fuller.
+pub fn any_longest(random: &mut Random, edition: u64) -> Scheduler {
+    let mut waiting = [None; SLOTS];
+    let (fullest, others) = (random.below(8) as usize, random.from_to(1, 7) as usize);
+    waiting[..=others].fill_with(|| Some(random.pick(&[0, 1, 3, 20])));
+    waiting[fullest] = Some(random.pick(&[MOST_WAITING - 1, MOST_WAITING, MOST_WAITING]));
+    let mut scheduler = any_with(random, edition, &waiting);
+    for (place, record) in scheduler.channels[fullest].records.iter_mut().enumerate() {
+        // The first stays where a visit is open: its deficit pays for it.
+        if place > 0 || scheduler.scan.visit != Some(fullest) {
+            record.length = LONGEST;
+        }
+    }
+    scheduler
 }

@@ -1,11 +1,12 @@
-//! An independent scheduler, written from document 01 and from §1, §3, §4 and §6 of document 02 over plain structures: no byte layout, no code shared
+//! An independent scheduler, written from document 01 and from §1, §3, §4, §6 and §7 of document 02 over plain structures: no byte layout, no code shared
 //! with the engine under test.
 //!
 //! The numbers are wider than the rules allow, so that a state that breaks a rule can be held too; [`Scheduler::sound`] tells them apart.
 
+use std::cmp::Reverse;
 use std::collections::{BTreeSet, VecDeque};
 
-use crate::answers::{Added, Closed, Opened, Refusal, Sent, Standing, Told};
+use crate::answers::{Added, Closed, Filling, Fullest, Opened, Refusal, Sent, Standing, Told};
 use crate::image;
 use crate::steps::{Moment, Tell};
 
@@ -22,6 +23,8 @@ pub const MOST_WAITING: usize = 64;
 pub const KEPT: usize = 2;
 pub const SHARED: usize = 384;
 pub const GRANT: u64 = 1_024;
+/// "a list of the five fullest"
+pub const LISTED: usize = 5;
 /// Serials are counted modulo this: 65,535 is followed by 0.
 pub const SERIALS: u64 = 65_536;
 /// The rules that a state can be started with: 1 is "today's rule", 2 holds the order for the round.
@@ -52,6 +55,15 @@ impl Record {
     pub fn cost(&self) -> u64 {
         cost_of(self.length)
     }
+}
+
+/// "a list of the five fullest: most bytes first, the lower slot first on a tie, channels with none left out", by the bytes that wait in each slot: all slots sorted,
+/// afresh each time.
+pub fn fullest_of(bytes: &[u64]) -> Vec<usize> {
+    let mut slots: Vec<usize> = (0..bytes.len()).filter(|&slot| bytes[slot] > 0).collect();
+    slots.sort_by_key(|&slot| (Reverse(bytes[slot]), slot));
+    slots.truncate(LISTED);
+    slots
 }
 
 /// What the state holds for one slot.
@@ -99,6 +111,11 @@ impl Channel {
     /// The slot is free again; its last ticket stays.
     pub fn free(&mut self) {
         *self = Channel { ticket: self.ticket, ..Channel::fresh() };
+    }
+
+    /// "its bytes waiting (without framing)"
+    pub fn bytes_waiting(&self) -> u64 {
+        self.records.iter().map(|record| record.length).sum()
     }
 
     /// Serials of waiting records are not held: the head's lies the number waiting below the next one.
@@ -154,6 +171,11 @@ impl Scheduler {
     pub fn ask(&self, slot: u32, ticket: u32) -> Result<Told, Refusal> {
         self.check()?;
         self.ask_sound(slot, ticket)
+    }
+
+    pub fn fullest(&self) -> Result<Fullest, Refusal> {
+        self.check()?;
+        self.fullest_sound()
     }
 
     pub fn park(&mut self, room: usize) -> Result<Vec<u8>, Refusal> {
@@ -273,7 +295,16 @@ impl Scheduler {
             weight: channel.weight as u32,
             deficit: channel.deficit as u32,
             waiting: channel.records.len() as u32,
+            bytes: channel.bytes_waiting() as u32,
         })
+    }
+
+    /// The list of the five fullest, with the bytes that wait in each.
+    pub fn fullest_sound(&self) -> Result<Fullest, Refusal> {
+        self.going()?;
+        let bytes = self.bytes_waiting();
+        let filling = |slot: usize| Filling { slot: slot as u32, bytes: bytes[slot] as u32 };
+        Ok(Fullest(fullest_of(&bytes).into_iter().map(filling).collect()))
     }
 
     /// The writer, for a buffer of this length: the image, which the buffer begins with afterwards. "After writing, the state is parked"; a refusal parks nothing.
@@ -298,6 +329,11 @@ impl Scheduler {
         let waiting = || self.channels.iter().map(|channel| channel.records.len());
         let have_one_at = |place: usize| waiting().filter(|&count| count > place).count();
         waiting().sum::<usize>() - (0..KEPT).map(have_one_at).sum::<usize>()
+    }
+
+    /// Each channel's bytes waiting.
+    pub fn bytes_waiting(&self) -> Vec<u64> {
+        self.channels.iter().map(Channel::bytes_waiting).collect()
     }
 
     /// The slot of a held channel whose present ticket this is.

@@ -13,6 +13,7 @@ pub enum Action {
     Close,
     Next,
     Ask,
+    Fullest,
     /// Close, drain, open again, then late calls with the old ticket.
     Replug,
     /// Next up to P = 2^k - 1, and a row that is heavier than all joins there and is closed.
@@ -117,6 +118,11 @@ fn long(_: &mut Random) -> u32 {
     LONGEST as u32
 }
 
+/// So short that channels are often equally full.
+fn one_or_two(random: &mut Random) -> u32 {
+    random.from_to(1, 2) as u32
+}
+
 /// Mostly short, so that visits stay open for some sends.
 fn short(random: &mut Random) -> u32 {
     random.pick(&[1, 90, 190, 246, 331, 332, 502, 1_014])
@@ -128,6 +134,7 @@ const MIXED: &[(Action, u64)] = &[
     (Action::Close, 3),
     (Action::Next, 40),
     (Action::Ask, 4),
+    (Action::Fullest, 2),
     (Action::Stale, 2),
     (Action::Bad, 2),
     (Action::Apart, 2),
@@ -158,6 +165,9 @@ const FILL: &[(Action, u64)] = &[(Action::Open, 4), (Action::Put, 40), (Action::
 const HARM: &[(Action, u64)] = &[(Action::Open, 6), (Action::Put, 20), (Action::Close, 3), (Action::Next, 20), (Action::Damage, 20)];
 /// The same where the cells stay taken.
 const HARM_FULL: &[(Action, u64)] = &[(Action::Open, 2), (Action::Put, 20), (Action::Close, 1), (Action::Next, 4), (Action::Damage, 30)];
+/// The same where channels have records, so that some are listed.
+const HARM_NOTES: &[(Action, u64)] =
+    &[(Action::Open, 8), (Action::Put, 30), (Action::Close, 1), (Action::Next, 8), (Action::Fullest, 2), (Action::Damage, 20)];
 const LENGTHS: &[(Action, u64)] = &[(Action::Open, 6), (Action::Put, 20), (Action::Close, 3), (Action::Next, 20), (Action::Mislent, 40)];
 /// Queues are parked and read again, filled or nearly empty.
 const PARKS: &[(Action, u64)] = &[
@@ -167,6 +177,8 @@ const PARKS: &[(Action, u64)] = &[
     (Action::Next, 40),
     (Action::Replug, 2),
     (Action::Stale, 2),
+    (Action::Ask, 2),
+    (Action::Fullest, 2),
     (Action::Park, 8),
 ];
 const ALL: &[(Action, u64)] = &[
@@ -175,6 +187,7 @@ const ALL: &[(Action, u64)] = &[
     (Action::Close, 5),
     (Action::Next, 40),
     (Action::Ask, 5),
+    (Action::Fullest, 3),
     (Action::Replug, 3),
     (Action::Stale, 5),
     (Action::Bad, 5),
@@ -218,13 +231,18 @@ pub const SHAPES: &[Shape] = &[
     shape("bad numbers at the limits", pool::any_at_limit, 24, 64, WRONG),
     shape("damage at the limits", pool::any_at_limit, 12, 64, HARM_FULL),
     Shape { long: 200, ..shape("a channel fills and drains", fresh, 1, 64, FILL) },
-    Shape { length: short, long: 600, ..shape("the pool fills and drains", fresh, 40, 64, FILL) },
+    Shape { length: short, long: 1_200, ..shape("the pool fills and drains", fresh, 40, 64, FILL) },
     shape("serial wrap", states::near_last_serial, 4, 16, MIXED),
     shape("last ticket", states::near_last_ticket, 4, 4, STORM),
     shape("unreached states", unreached, 8, 16, MIXED),
     shape("any sound state", any_state, 24, 16, MIXED),
     shape("damage", any_state, 12, 8, HARM),
     shape("other lengths", fresh, 6, 8, LENGTHS),
+    // Who is filling up (document 02, §7): ties, about as many channels as are listed, and the most bytes that can wait.
+    Shape { length: one_or_two, ..shape("channels equally full", fresh, 12, 3, MIXED) },
+    Shape { length: one_or_two, ..shape("as many channels as are listed", fresh, 7, 6, STORM) },
+    Shape { length: long, ..shape("as many bytes as can wait", pool::any_longest, 8, 64, MIXED) },
+    Shape { length: one_or_two, ..shape("damage to the notes", fresh, 8, 3, HARM_NOTES) },
     // Parked queues (document 02, §6).
     Shape { length: short, ..shape("parked queues", fresh, 12, 6, PARKS) },
     shape("parked from the beginning", any_parked, 24, 16, PARKS),

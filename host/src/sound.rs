@@ -1,6 +1,6 @@
 //! When a state is sound: document 01's list, one rule after the other, over the plain structure, and what document 02 says of editions (§3),
-//! of the shared cells (§4) and of the mark of a parked state (§6).
-//! Its last rule ("bytes that stand for nothing are 0") is about bytes and stands in [`crate::layout`].
+//! of the shared cells (§4) and of the mark of a parked state (§6). The two rules of §7 are about what a memory says twice and stand in [`crate::notes`];
+//! document 01's last rule ("bytes that stand for nothing are 0") is about bytes and stands in [`crate::layout`].
 
 use crate::scheduler::{
     Channel, Kind, Record, Scheduler, COLUMNS, EDITIONS, GOING, LARGEST_WEIGHT, LAST_TICKET, LONGEST, MOST_WAITING, PARKED, SERIALS,
@@ -24,6 +24,9 @@ pub enum Rule {
     Deficit,
     Edition,
     Mark,
+    /// Of a memory's notes: the bytes waiting, and the list of the fullest.
+    Bytes,
+    Fullest,
 }
 
 impl Scheduler {

@@ -44,6 +44,30 @@ pub fn rich(edition: u64) -> Scheduler {
     scheduler
 }
 
+/// Eight channels with records, one too many of them equally full: by their bytes they are 9, then 2, 4, 7, 11 and 13 alike, then 20 and 30, so that 13 is left out for
+/// its slot alone.
+pub fn filling(edition: u64) -> Scheduler {
+    let open = |slot: usize, lengths: &[u64]| (slot, channel(Kind::Open, 1, 1 + slot as u64, 0, 1, lengths));
+    let channels = [
+        open(1, &[]),
+        open(2, &[500, 500]),
+        open(4, &[1_000]),
+        open(7, &[600, 400]),
+        open(9, &[1_014, 986]),
+        open(11, &[1_000]),
+        open(13, &[999, 1]),
+        open(20, &[999]),
+        open(30, &[1]),
+    ];
+    with_rows(edition, &channels, &[13, 30, 4, 2, 20, 9, 11, 7])
+}
+
+/// The fullest channel that there can be, in slot 5, beside one of a byte.
+pub fn fullest(edition: u64) -> Scheduler {
+    let channels = [(0, channel(Kind::Open, 1, 1, 0, 1, &[1])), (5, channel(Kind::Open, 1, 9, 0, 64, &[LONGEST; 64]))];
+    with_rows(edition, &channels, &[0, 5])
+}
+
 /// One row, of weight 1 with these records, after heavier ones have left in mid-round: the order is held above its own. The last one to leave is still open.
 pub fn door(order: u64, position: u64, lengths: &[u64]) -> Scheduler {
     let door = channel(Kind::Open, 1, 1, 0, 16, lengths);
@@ -68,7 +92,14 @@ pub fn parked(scheduler: Scheduler) -> Scheduler {
 
 /// Sound states that no history reaches, or that take very long to reach, by name.
 pub fn unreached(edition: u64) -> Vec<(&'static str, Scheduler)> {
-    let mut states = vec![("rich", rich(edition)), ("rich, parked", parked(rich(edition))), ("full, parked", parked(pool::full(edition)))];
+    let mut states = vec![
+        ("rich", rich(edition)),
+        ("rich, parked", parked(rich(edition))),
+        ("full, parked", parked(pool::full(edition))),
+        ("a tie at the end of the list", filling(edition)),
+        ("a tie at the end of the list, parked", parked(filling(edition))),
+        ("as many bytes as can wait in a channel", fullest(edition)),
+    ];
     states.extend(pool::at_the_limit(edition));
     if edition == 2 {
         states.extend(held());

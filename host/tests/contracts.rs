@@ -6,12 +6,13 @@ mod rattle;
 use rattle::{functions, source, Function};
 
 /// Where the public calls stand, and which they are.
-const CALLS: [(&str, &[&str]); 10] = [
+const CALLS: [(&str, &[&str]); 11] = [
     ("uplink/src/open.rt", &["start", "open"]),
     ("uplink/src/put.rt", &["put"]),
     ("uplink/src/close.rt", &["close"]),
     ("uplink/src/next.rt", &["next"]),
     ("uplink/src/ask.rt", &["ask"]),
+    ("uplink/src/filling.rt", &["fullest"]),
     ("spread/src/lib.rt", &["term", "lead"]),
     ("image/src/writer.rt", &["park"]),
     ("image/src/reader.rt", &["unpark"]),
@@ -25,6 +26,7 @@ const CALLS: [(&str, &[&str]); 10] = [
             "uplink_close",
             "uplink_next",
             "uplink_ask",
+            "uplink_fullest",
             "uplink_park",
             "uplink_unpark",
             "uplink_term",
@@ -62,7 +64,7 @@ fn no_public_call_has_a_requires() {
 /// An entry that this list does not have would be a public call that nobody looks at.
 #[test]
 fn every_exported_entry_is_listed() {
-    for (file, calls) in &CALLS[8..] {
+    for (file, calls) in &CALLS[9..] {
         let exported: Vec<String> = functions(&source(file)).into_iter().filter(|f| f.exported).map(|f| f.name).collect();
         assert_eq!(exported, *calls);
     }

@@ -1,10 +1,12 @@
 //! The generated histories meet the corners where schedulers go wrong, each of them many times.
 
+mod fills;
 mod limits;
 mod parks;
 
 use std::collections::BTreeMap;
 
+use fills::look_at_filling;
 use host::compare::state_call;
 use host::generate::history;
 use host::history::{Call, Step};
@@ -89,7 +91,7 @@ const CORNERS: [&str; 65] = [
 
 #[test]
 fn histories_meet_every_corner() {
-    let mut count: Count = CORNERS.into_iter().chain(parks::CORNERS).map(|corner| (corner, 0)).collect();
+    let mut count: Count = CORNERS.into_iter().chain(parks::CORNERS).chain(fills::CORNERS).map(|corner| (corner, 0)).collect();
     let mut numbers = BTreeMap::new();
     for seed in 0..2_000 {
         let history = history(seed);
@@ -118,9 +120,9 @@ fn histories_meet_every_corner() {
         assert!(times >= 20, "{corner}: {times}");
     }
     let (start, open, put) = (("start", &[0, 12][..]), ("open", &[0, 6, 7][..]), ("put", &[0, 1, 2, 3, 4, 5, 13][..]));
+    let (ask, fullest) = (("ask", &[0, 1, 2][..]), ("fullest", &[0][..]));
     let (park, unpark) = (("park", &[0, 16][..]), ("unpark", &[0, 15][..]));
-    for (call, list) in [start, open, put, ("close", &[0, 1, 2, 3]), ("next", &[0, 8]), ("ask", &[0, 1, 2]), park, unpark, ("apart", &[0])]
-    {
+    for (call, list) in [start, open, put, ("close", &[0, 1, 2, 3]), ("next", &[0, 8]), ask, fullest, park, unpark, ("apart", &[0])] {
         // A parked state refuses every call on it but Start and the reader.
         let parked = (!["start", "unpark", "apart"].contains(&call)).then_some(&14);
         for &number in list.iter().chain(parked) {
@@ -141,8 +143,8 @@ const DAMAGED: [&str; 6] = [
 ];
 
 #[test]
-fn damage_meets_the_limits() {
-    let mut count: Count = DAMAGED.into_iter().map(|corner| (corner, 0)).collect();
+fn damage_meets_the_limits_and_the_notes() {
+    let mut count: Count = DAMAGED.into_iter().chain(fills::DAMAGED).map(|corner| (corner, 0)).collect();
     for seed in 0..2_000 {
         look_at_damage(history(seed), &mut |corner, holds| *count.get_mut(corner).expect("a corner of the list") += u32::from(holds));
     }
@@ -160,6 +162,7 @@ fn name(call: &Call) -> &'static str {
         Call::Close { .. } => "close",
         Call::Next => "next",
         Call::Ask { .. } => "ask",
+        Call::Fullest => "fullest",
         Call::Park { .. } => "park",
         Call::Unpark { .. } => "unpark",
         _ => "apart",
@@ -169,6 +172,9 @@ fn name(call: &Call) -> &'static str {
 fn look(before: &Scheduler, after: &Scheduler, call: &Call, result: &Result<Vec<u32>, u32>, count: &mut Count) {
     let mut met = |corner: &'static str, holds: bool| *count.get_mut(corner).expect("a corner of the list") += u32::from(holds);
     look_at_parking(before, after, call, *result.as_ref().err().unwrap_or(&0), &mut met);
+    if let Ok(fields) = result {
+        look_at_filling(before, after, call, fields, &mut met);
+    }
     match (call, result) {
         (Call::Put { slot, length, .. }, Ok(fields)) => {
             met("a length of 1,014 is taken", *length == 1_014);

@@ -14,13 +14,14 @@ use host::history::Call;
 use rattle::{functions, source};
 
 /// Each entry with a call of its kind.
-const ENTRIES: [(&str, Call); 10] = [
+const ENTRIES: [(&str, Call); 11] = [
     ("uplink_start", Call::Start { edition: 0 }),
     ("uplink_open", Call::Open { weight: 0 }),
     ("uplink_put", Call::Put { slot: 0, ticket: 0, length: 0, reference: 0 }),
     ("uplink_close", Call::Close { slot: 0, ticket: 0 }),
     ("uplink_next", Call::Next),
     ("uplink_ask", Call::Ask { slot: 0, ticket: 0 }),
+    ("uplink_fullest", Call::Fullest),
     ("uplink_park", Call::Park { room: 0 }),
     ("uplink_unpark", Call::Unpark { image: Vec::new() }),
     ("uplink_term", Call::Term { order: 0, position: 0 }),
@@ -95,6 +96,10 @@ impl<E: Engine> Engine for Exchanged<E> {
         self.made(Call::Ask { slot, ticket }, state, answer)
     }
 
+    fn fullest(&mut self, state: &mut [u8], answer: &mut [u8]) -> u32 {
+        self.made(Call::Fullest, state, answer)
+    }
+
     fn park(&mut self, state: &mut [u8], image: &mut [u8], answer: &mut [u8]) -> u32 {
         self.made_with(Call::Park { room: image.len() }, state, image, answer)
     }
@@ -137,7 +142,7 @@ fn every_exchange_is_found() {
             tried += 1;
         }
     }
-    assert_eq!(tried, 24);
+    assert_eq!(tried, 25);
 }
 
 /// Those of support's engine, beside the adapter's as it is.

@@ -185,6 +185,7 @@ fn macros_have_the_numbers_of_code_and_specs() {
         ("CLOSE", Call::Close { slot: 0, ticket: 1 }),
         ("NEXT", Call::Next),
         ("ASK", Call::Ask { slot: 0, ticket: 1 }),
+        ("FULLEST", Call::Fullest),
         ("PARK", Call::Park { room: LENGTH }),
         ("LEAD", Call::Lead { w1: 1, v1: 1, w2: 1, v2: 1 }),
         ("TERM", Call::Term { order: 1, position: 1 }),

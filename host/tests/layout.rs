@@ -2,8 +2,10 @@
 
 use host::check::record_by_record;
 use host::layout::{
-    fresh, from_bytes, is_sound_memory, name_of, to_bytes, CELLS, EDITION, LENGTH, LENGTHS, MARK, NOTHING, TICKET, TO_VISIT,
+    fresh, from_bytes, is_sound_memory, name_of, notes_from_bytes, to_bytes, with_notes, BYTES, CELLS, EDITION, LENGTH, LENGTHS, LIST,
+    LIST_COUNT, MARK, NOTHING, TICKET, TO_VISIT,
 };
+use host::notes::Notes;
 use host::pool;
 use host::random::Random;
 use host::scheduler::{Scheduler, EDITIONS, KEPT, SHARED, SLOTS};
@@ -42,9 +44,39 @@ fn the_mark_is_0_or_1() {
 #[test]
 fn there_is_a_cell_for_each_record_within_the_limits() {
     assert_eq!((CELLS, SLOTS * KEPT + SHARED), (512, 512));
-    assert_eq!((LENGTH, 896 + 6 * CELLS), (3_968, 3_968));
+    assert_eq!((BYTES.start, 896 + 6 * CELLS), (3_968, 3_968));
     let full = pool::full(1);
     assert_eq!((full.shared_in_use(), full.channels.iter().map(|channel| channel.records.len()).sum::<usize>()), (SHARED, CELLS));
+}
+
+/// "Each channel's record gains its bytes waiting (without framing), and the state a list of the five fullest": two lines of 64, a number and five slots.
+#[test]
+fn the_notes_stand_behind_the_records() {
+    assert_eq!((BYTES.places(), LIST_COUNT.places(), LIST.places(), LENGTH), (3_968..4_096, 4_096..4_097, 4_097..4_102, 4_102));
+    let bytes = to_bytes(&states::filling(1));
+    // 2,000 bytes are 7 * 256 + 208, and 1,000 are 3 * 256 + 232.
+    assert_eq!((bytes[3_968 + 9], bytes[4_032 + 9], bytes[3_968 + 13], bytes[4_032 + 13]), (208, 7, 232, 3));
+    assert_eq!(bytes[4_096..], [5, 9, 2, 4, 7, 11]);
+    let bytes = to_bytes(&states::fullest(2));
+    // 64,896 bytes are 253 * 256 + 128. Slot 0 is listed, and zeros behind it.
+    assert_eq!((bytes[3_968], bytes[4_032], bytes[3_968 + 5], bytes[4_032 + 5]), (1, 0, 128, 253));
+    assert_eq!(bytes[4_096..], [2, 5, 0, 0, 0, 0]);
+    assert_eq!(notes_from_bytes(&bytes).map(|notes| notes.listed), Some(vec![5, 0]));
+    assert_eq!(to_bytes(&Scheduler::fresh(1))[3_968..], [0; 134]);
+}
+
+/// A memory without its notes, with another's, or with a number above five is none's.
+#[test]
+fn notes_are_what_the_records_say() {
+    let (one, other) = (states::rich(1), states::filling(1));
+    assert!(!is_sound_memory(&with_notes(&one, &Notes::of(&other))) && is_sound_memory(&with_notes(&one, &Notes::of(&one))));
+    assert!(!is_sound_memory(&to_bytes(&one)[..BYTES.start]));
+    for count in 0..=255 {
+        let mut bytes = to_bytes(&one);
+        bytes[LIST_COUNT.start] = count;
+        assert_eq!(notes_from_bytes(&bytes).is_some(), count <= 5);
+        assert_eq!((is_sound_memory(&bytes), record_by_record(&bytes)), (count == 5, count == 5));
+    }
 }
 
 /// Every byte of a small state, written down by hand from the layout page.
@@ -79,6 +111,9 @@ fn a_state_by_hand() {
         (2_432, 0x33), (2_433, 0x77), (2_434, 0xbb),
         (2_944, 0x22), (2_945, 0x66), (2_946, 0xaa),
         (3_456, 0x11), (3_457, 0x55), (3_458, 0x99),
+        // 0x0102 + 0x0304 = 0x0406.
+        (3_970, 0x06), (4_034, 0x04), (3_973, 5),
+        (4_096, 2), (4_097, 2), (4_098, 5),
     ];
     for &(place, byte) in places {
         expected[place] = byte;
@@ -101,7 +136,12 @@ fn each_byte_has_a_name() {
     assert_eq!(name_of(192 + 64 + 3), "ticket, lane 3, byte 1");
     assert_eq!((name_of(846), name_of(847)), ("edition, lane 0, byte 0".to_string(), "parked, lane 0, byte 0".to_string()));
     assert_eq!((name_of(848), name_of(895)), ("nothing, lane 0, byte 0".to_string(), "nothing, lane 47, byte 0".to_string()));
-    assert_eq!(name_of(LENGTH - 1), "reference, lane 511, byte 3");
+    assert_eq!(name_of(3_967), "reference, lane 511, byte 3");
+    assert_eq!(
+        (name_of(3_968), name_of(4_033)),
+        ("bytes waiting, lane 0, byte 0".to_string(), "bytes waiting, lane 1, byte 1".to_string())
+    );
+    assert_eq!((name_of(4_096), name_of(4_101)), ("number listed, lane 0, byte 0".to_string(), "fullest, lane 4, byte 0".to_string()));
     assert!((0..LENGTH).all(|place| name_of(place) != name_of(LENGTH)));
 }
 
@@ -118,7 +158,7 @@ fn sound_states_round_trip() {
         };
         assert_eq!(scheduler.broken(), [], "round {round}");
         let bytes = to_bytes(&scheduler);
-        assert_eq!(from_bytes(&bytes).as_ref(), Some(&scheduler));
+        assert_eq!((from_bytes(&bytes).as_ref(), notes_from_bytes(&bytes)), (Some(&scheduler), Some(Notes::of(&scheduler))));
         assert!(is_sound_memory(&bytes) && record_by_record(&bytes));
     }
 }
@@ -132,8 +172,9 @@ fn damaged_memories_decode_or_not() {
         let (most, edition) = (random.pick(&[1, 4, 64]), random.pick(&EDITIONS));
         let mut bytes = to_bytes(&states::any_sound(&mut random, edition, most));
         for _ in 0..random.from_to(1, 3) {
-            let end = random.pick(&[TICKET.start, LENGTHS.start, LENGTHS.start, LENGTH]);
-            let place = random.below(end as u64) as usize;
+            let (start, end) =
+                random.pick(&[(0, TICKET.start), (0, LENGTHS.start), (0, LENGTHS.start), (0, LENGTH), (BYTES.start, LENGTH)]);
+            let place = start + random.below((end - start) as u64) as usize;
             bytes[place] = random.pick(&[0, 1, 2, 255, bytes[place] ^ 1, bytes[place].wrapping_add(1)]);
         }
         assert_eq!(record_by_record(&bytes), is_sound_memory(&bytes));

@@ -11,7 +11,7 @@ use host::pool;
 use host::scheduler::EDITIONS;
 use host::states;
 
-const CALLS: [Call; 14] = [
+const CALLS: [Call; 15] = [
     Call::Start { edition: 1 },
     Call::Start { edition: 2 },
     // Another length is refused before another edition is.
@@ -23,6 +23,7 @@ const CALLS: [Call; 14] = [
     Call::Close { slot: 1, ticket: 1 },
     Call::Next,
     Call::Ask { slot: 1, ticket: 1 },
+    Call::Fullest,
     Call::Lead { w1: 1, v1: 2, w2: 3, v2: 4 },
     Call::Lead { w1: 0, v1: 2, w2: 3, v2: 4 },
     Call::Term { order: 3, position: 4 },
@@ -37,9 +38,9 @@ fn of_parking(memory: &[u8]) -> Vec<Call> {
     rooms.into_iter().chain(images).collect()
 }
 
-/// 7,040 bytes have cells for 16 records in each of 64 channels.
-const STATE_LENGTHS: [usize; 15] =
-    [0, 1, 28, 63, 64, LENGTHS.start, LENGTH / 2, LENGTH - 2, LENGTH - 1, LENGTH, LENGTH + 1, LENGTH + 64, 4_096, 7_040, 2 * LENGTH];
+/// 3,968 bytes are all but the notes, and 7,040 have cells for 16 records in each of 64 channels.
+const STATE_LENGTHS: [usize; 16] =
+    [0, 1, 44, 63, 64, LENGTHS.start, LENGTH / 2, 3_968, 4_096, LENGTH - 2, LENGTH - 1, LENGTH, LENGTH + 1, LENGTH + 64, 7_040, 2 * LENGTH];
 
 fn compare(memory: Vec<u8>) -> u64 {
     let mut steps = Vec::new();

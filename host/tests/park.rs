@@ -26,6 +26,7 @@ fn others(length: usize) -> Vec<Call> {
         Call::Next,
         Call::Ask { slot: 3, ticket: 9 },
         Call::Ask { slot: 64, ticket: 9 },
+        Call::Fullest,
         Call::Park { room: length },
         Call::Park { room: 0 },
     ]
@@ -107,7 +108,7 @@ fn a_parked_state_takes_only_start_and_the_reader() {
             histories.push(history("parked", 0, to_bytes(&state), calls(all)));
         }
     }
-    assert_eq!(compare(histories), 4 * 3 * 41);
+    assert_eq!(compare(histories), 4 * 3 * 44);
 }
 
 /// 10 comes before 14: a parked memory that breaks a rule, and any mark above 1.

@@ -12,8 +12,10 @@ use host::scheduler::{Kind, Scheduler, EDITIONS, LARGEST_WEIGHT, LONGEST, SLOTS}
 use host::states::{channel, door, with_rows};
 use wrong::{Slip, Wrong};
 
-/// Rows read in slot order; the term one position late; a round's end without the order afresh; the order of the rows before the new one joined.
-const SLIPS: [Slip; 4] = [Slip::SlotOrder, Slip::TermLate, Slip::EndKeepsOrder, Slip::OrderBeforeJoin];
+/// Rows read in slot order; the term one position late; a round's end without the order afresh; the order of the rows before the new one joined; the list of the fullest
+/// as it was before a put, and before a last send.
+const SLIPS: [Slip; 6] =
+    [Slip::SlotOrder, Slip::TermLate, Slip::EndKeepsOrder, Slip::OrderBeforeJoin, Slip::PutKeepsOrder, Slip::ListKeptAfterLastSend];
 
 /// Nexts from each of these states.
 fn compare(states: impl IntoIterator<Item = Scheduler>, nexts: usize) -> u64 {

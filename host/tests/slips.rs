@@ -73,6 +73,9 @@ fn a_silent_engine_is_found() {
         fn ask(&mut self, _: &mut [u8], _: u32, _: u32, _: &mut [u8]) -> u32 {
             0
         }
+        fn fullest(&mut self, _: &mut [u8], _: &mut [u8]) -> u32 {
+            0
+        }
         fn park(&mut self, _: &mut [u8], _: &mut [u8], _: &mut [u8]) -> u32 {
             0
         }

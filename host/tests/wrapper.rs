@@ -7,7 +7,7 @@ use host::layout::{fresh, is_sound_memory, to_bytes, LENGTH};
 use host::random::Random;
 use host::states;
 use uplink::entries::uplink_start;
-use uplink::{lead, term, Added, Closed, Edition, Memory, Opened, Refusal, Sent, Standing, Told};
+use uplink::{lead, term, Added, Closed, Edition, Filling, Memory, Opened, Refusal, Sent, Standing, Told};
 
 const EDITIONS: [Edition; 2] = [Edition::One, Edition::Two];
 
@@ -125,12 +125,12 @@ fn a_channel_drains() {
     assert_eq!(memory.close(0, 1), Ok(Closed::Draining));
     assert_eq!(memory.close(0, 1), Err(Refusal::AtClosing));
     assert_eq!(memory.next(), Ok(Sent { slot: 0, ticket: 1, length: 600, reference: 77, serial: 0, started: true, terms: 1 }));
-    assert_eq!(memory.ask(0, 1), Ok(Told { standing: Standing::Closing, weight: 5, deficit: 414, waiting: 1 }));
+    assert_eq!(memory.ask(0, 1), Ok(Told { standing: Standing::Closing, weight: 5, deficit: 414, waiting: 1, bytes: 404 }));
     assert_eq!(memory.next(), Ok(Sent { slot: 0, ticket: 1, length: 404, reference: 78, serial: 1, started: false, terms: 0 }));
     assert_eq!(memory.ask(0, 1), Err(Refusal::NotPresent));
     assert_eq!(memory.open(6), Ok(Opened { slot: 0, ticket: 2 }));
     assert_eq!(memory.close(0, 1), Err(Refusal::NotPresent));
-    assert_eq!(memory.ask(0, 2), Ok(Told { standing: Standing::Open, weight: 6, deficit: 0, waiting: 0 }));
+    assert_eq!(memory.ask(0, 2), Ok(Told { standing: Standing::Open, weight: 6, deficit: 0, waiting: 0, bytes: 0 }));
     assert_eq!(memory.close(0, 2), Ok(Closed::Freed));
     assert_eq!(memory.ask(64, 1), Err(Refusal::NoSlot));
 }
@@ -151,7 +151,7 @@ fn any_bytes_and_numbers() {
         let _ = memory.put(number(), number(), number(), number());
         let _ = memory.close(number() % 65, number());
         let _ = memory.next();
-        let _ = memory.ask(number() % 65, number());
+        let _ = (memory.ask(number() % 65, number()), memory.fullest());
         let _ = (lead(number(), number(), number(), number()), term(number(), number()));
         memory.start(edition);
         assert_eq!(memory.bytes()[..], fresh(edition as u64));
@@ -188,13 +188,37 @@ fn queues_are_parked() {
     assert_eq!(memory.bytes()[..], fresh(1));
 }
 
-/// Ask takes a memory that is only lent to be read.
+/// Document 02, §7: the five fullest, ties by the lower slot, and none without a record.
 #[test]
-fn ask_reads_alone() {
+fn the_fullest_are_listed() {
+    let mut memory = Memory::new(Edition::Two);
+    assert_eq!(memory.fullest(), Ok(Vec::new()));
+    for lengths in [&[5][..], &[], &[1_014, 6], &[5], &[7], &[2, 3], &[5]] {
+        let opened = memory.open(1).unwrap();
+        lengths.iter().for_each(|&length| assert!(memory.put(opened.slot, opened.ticket, length, 0).is_ok()));
+    }
+    let list = |memory: &Memory| memory.fullest().map(|list| list.into_iter().map(|Filling { slot, bytes }| (slot, bytes)).collect());
+    assert_eq!(list(&memory), Ok(vec![(2, 1_020), (4, 7), (0, 5), (3, 5), (5, 5)]));
+    assert_eq!(memory.ask(2, 1).map(|told| (told.waiting, told.bytes)), Ok((2, 1_020)));
+    memory.put(6, 1, 1, 0).unwrap();
+    assert_eq!(list(&memory), Ok(vec![(2, 1_020), (4, 7), (6, 6), (0, 5), (3, 5)]));
+    let mut image = [0; Memory::IMAGE_LENGTH];
+    let length = memory.park(&mut image).unwrap();
+    assert_eq!(memory.fullest(), Err(Refusal::Parked));
+    let mut lost = Memory::from_bytes([0xff; LENGTH]);
+    assert_eq!(lost.fullest(), Err(Refusal::Unsound));
+    lost.unpark(&image[..length]).unwrap();
+    assert_eq!(list(&lost), Ok(vec![(2, 1_020), (4, 7), (6, 6), (0, 5), (3, 5)]));
+}
+
+/// Ask and Fullest take a memory that is only lent to be read.
+#[test]
+fn ask_and_fullest_read_alone() {
     let bytes: [u8; LENGTH] = to_bytes(&states::rich(1)).try_into().unwrap();
     let memory = Memory::from_bytes(bytes);
     assert!(memory.is_sound());
     assert!((0..64).any(|slot| memory.ask(slot, 1).is_ok()));
+    assert_eq!(memory.fullest().map(|list| list.len()), Ok(Memory::LISTED));
     assert_eq!(memory.bytes(), &bytes);
 }
 

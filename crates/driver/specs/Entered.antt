@@ -6,11 +6,11 @@ use lib.Dec.{eqb}
 use lib.ListN.{length, replicate}
 use lib.IntN.{ℤ}
 use Rattle.answers.specs.Answer.{unsound, numberOf, Answer, refused, given, number}
-use Rattle.rules.specs.Calls.{Opened, Taken, Closed, Asked}
+use Rattle.rules.specs.Calls.{Opened, Taken, Closed, Asked, Entry as Filling}
 use Rattle.rules.specs.Next.{Sent}
 use Rattle.rules.specs.Listed.{openedFields, takenFields, closedFields, sentFields, askedFields}
 use Rattle.memory.specs.Memory.{Left}
-use Rattle.uplink.specs.Told.{leaving}
+use Rattle.uplink.specs.Told.{panel, leaving}
 use Rattle.image.specs.Parked.{Parked}
 use Rattle.driver.specs.Words.{lowFirst, words, twos}
 
@@ -74,6 +74,9 @@ nextBytes a = words (sentFields a)
 
 abbrev pub askBytes : Asked → List ℕ
 askBytes a = words (askedFields a)
+
+abbrev pub fullestBytes : List Filling → List ℕ
+fullestBytes es = words (panel es)
 
 abbrev pub termBytes : ℕ → List ℕ
 termBytes t = words (t ∷ [])

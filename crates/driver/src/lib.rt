@@ -17,16 +17,17 @@ use spread::LeadAnswer;
 use spread::TermAnswer;
 use uplink::AskAnswer;
 use uplink::CloseAnswer;
+use uplink::FullestAnswer;
 use uplink::OpenAnswer;
 use uplink::StartAnswer;
 ghost use mathlib.Core.Path.{_≡_};
 ghost use mathlib.Core.List.{[]};
 ghost use Rattle.spread.specs.Calls.{termCall, leadCall};
-ghost use Rattle.rules.specs.Calls.{openCall, putCall, closeCall, askCall};
+ghost use Rattle.rules.specs.Calls.{openCall, putCall, closeCall, askCall, fullestCall};
 ghost use Rattle.rules.specs.Next.{nextCall};
 ghost use Rattle.memory.specs.Memory.{on, startOn};
 ghost use Rattle.image.specs.Parked.{parkOn, readOn};
-ghost use Rattle.driver.specs.Entered.{entry, entered, parkEntry, parkEntered, stateless, startBytes, openBytes, putBytes, closeBytes, nextBytes, askBytes, termBytes, leadBytes};
+ghost use Rattle.driver.specs.Entered.{entry, entered, parkEntry, parkEntered, stateless, startBytes, openBytes, putBytes, closeBytes, nextBytes, askBytes, fullestBytes, termBytes, leadBytes};
 
 pub mod fields; // fields.rt: numbers and fields
 pub mod records; // records.rt: what Put and Next answer
@@ -107,12 +108,12 @@ pub extern "C" fn uplink_next(state: &mut [u8], answer: &mut [u8]) -> u32
     sent(answer, told)
 }
 
-// Tells of a channel, and changes nothing. Answer: 1 for open or 2 for closing, weight, deficit, number waiting.
+// Tells of a channel, and changes nothing. Answer: 1 for open or 2 for closing, weight, deficit, number waiting, bytes waiting.
 #[no_mangle]
 pub extern "C" fn uplink_ask(state: &[u8], slot: u32, ticket: u32, answer: &mut [u8]) -> u32
-    ensures { λ r. ⌜ entry r (now (state .entry)) (now (answer .exit)) ≡ entered 16 askBytes (on (askCall slot ticket) (now (state .entry))) (now (state .entry)) (now (answer .entry)) ⌝ }
+    ensures { λ r. ⌜ entry r (now (state .entry)) (now (answer .exit)) ≡ entered 20 askBytes (on (askCall slot ticket) (now (state .entry))) (now (state .entry)) (now (answer .entry)) ⌝ }
 {
-    if answer.len() != 16 {
+    if answer.len() != 20 {
         return wrong_length();
     }
     match uplink::ask::ask(state, slot, ticket) {
@@ -121,11 +122,48 @@ pub extern "C" fn uplink_ask(state: &[u8], slot: u32, ticket: u32, answer: &mut 
             weight,
             deficit,
             waiting,
+            bytes,
         } => {
-            let fields = [kind, weight, deficit, waiting];
+            let fields = [kind, weight, deficit, waiting, bytes];
             give(answer, &fields)
         }
         AskAnswer::Refused(why) => refuse(answer, why),
+    }
+}
+
+// Tells of the fullest channels, and changes nothing. Answer: how many are listed, then five times slot, bytes waiting, the fullest first; zeros behind the last.
+#[no_mangle]
+pub extern "C" fn uplink_fullest(state: &[u8], answer: &mut [u8]) -> u32
+    ensures { λ r. ⌜ entry r (now (state .entry)) (now (answer .exit)) ≡ entered 44 fullestBytes (on fullestCall (now (state .entry))) (now (state .entry)) (now (answer .entry)) ⌝ }
+{
+    if answer.len() != 44 {
+        return wrong_length();
+    }
+    match uplink::filling::fullest(state) {
+        FullestAnswer::Listed {
+            count,
+            first,
+            second,
+            third,
+            fourth,
+            fifth,
+        } => {
+            let fields = [
+                count,
+                first.slot,
+                first.bytes,
+                second.slot,
+                second.bytes,
+                third.slot,
+                third.bytes,
+                fourth.slot,
+                fourth.bytes,
+                fifth.slot,
+                fifth.bytes,
+            ];
+            give(answer, &fields)
+        }
+        FullestAnswer::Refused(why) => refuse(answer, why),
     }
 }
 

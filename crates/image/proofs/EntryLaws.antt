@@ -14,18 +14,18 @@ use Rattle.octets.proofs.WritingLaws.{nothing-written, then-written}
 use Rattle.rules.specs.Numbers.{slots, cells}
 use Rattle.rules.specs.State.{Record, Channel}
 use Rattle.memory.specs.Names as the
-use Rattle.memory.specs.Layout.{runOf, memoryLength}
+use Rattle.memory.specs.Layout.{runOf, baseLength}
 use Rattle.memory.specs.Head.{headAt}
-use Rattle.memory.specs.Memory.{soundBytes}
+use Rattle.memory.specs.Memory.{soundBase}
 use Rattle.memory.specs.Reading.{byteIn, waitingAt, firstAt, recordAt, channelAt, stateOf}
 use Rattle.memory.specs.declared.heads.Head.{Head}
 use Rattle.memory.proofs.BytesOfState.{kind-there}
 use Rattle.memory.proofs.RunOfSlots.{run-read}
 use Rattle.memory.proofs.RunEdits.{first-le, first-next}
-use Rattle.memory.proofs.SoundBytes.{sound-only}
+use Rattle.memory.proofs.SoundBytes.{base-only}
 use Rattle.memory.proofs.SoundFits.{sound-fits}
 use Rattle.memory.proofs.Fitting.{run-few}
-use Rattle.memory.proofs.OneMemory.{memory-sound}
+use Rattle.memory.proofs.OneMemory.{base-sound}
 use Rattle.image.specs.Parts.{partsOf, laid}
 use Rattle.image.specs.Image.{wide, lengthWidth, recordBytes, recordParts, recordsBytes, slotParts, fixed, entry, entries}
 use Rattle.image.proofs.PartLaws.{length-laid}
@@ -138,15 +138,15 @@ pub entries-none : (v : ℕ) (m b : List ℕ) (at : ℕ) → Written b at (entri
 unfolding entries tab
 entries-none v m b at = nothing-written b at
 
--- ---- a sound memory
+-- ---- a sound base
 
-module _ (m : List ℕ) (e : soundBytes m ≡ true) where
-  pub sound-size : length m ≡ memoryLength
-  sound-size = memory-sound m e .size
+module _ (m : List ℕ) (e : soundBase m ≡ true) where
+  pub sound-size : length m ≡ baseLength
+  sound-size = base-sound m e .size
 
   pub sound-kind : (i : ℕ) → i < slots → byteIn the.kind m i ≤ 2
-  sound-kind = sound-only m e .kinds
+  sound-kind = base-only m e .kinds
 
   pub sound-total : firstAt m slots ≤ cells
   unfolding stateOf
-  sound-total = let few = run-few (sound-fits (memory-sound m e .state)) in omega (arith, length-run-to m slots)
+  sound-total = let few = run-few (sound-fits (base-sound m e .state)) in omega (arith, length-run-to m slots)

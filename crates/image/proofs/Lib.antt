@@ -6,6 +6,7 @@ pub mod Longest
 pub mod LaidLaws
 pub mod EntryLaws
 pub mod HeadLaws
+pub mod NotesLaws
 pub mod Examples
 pub mod Promises
 pub mod TakingLaws

@@ -15,10 +15,10 @@ use Rattle.answers.specs.Answer.{unsound, badImage, refused, given}
 use Rattle.rules.specs.State.{State, withMark}
 use Rattle.rules.specs.Facts.{Sound}
 use Rattle.rules.proofs.ParkedKept.{mark-kept}
-use Rattle.memory.specs.Layout.{bytesOf, memoryLength}
+use Rattle.memory.specs.Layout.{memoryOf, memoryLength}
 use Rattle.memory.specs.Memory.{same, soundBytes}
 use Rattle.memory.specs.Reading.{stateOf}
-use Rattle.memory.proofs.RoundTrip.{sound-state}
+use Rattle.memory.proofs.Base.{sound-state}
 use Rattle.memory.proofs.OneMemory.{same-true, true-same, sound-memory, memory-sound}
 use Rattle.image.specs.Parts.{asNumber}
 use Rattle.image.specs.Image.{lists, imageOf}
@@ -85,11 +85,11 @@ module _ (image : List ℕ) (v : ℕ) (version : v ≡ getD image 0 0) where
   received-unknown m h =
       record { received = no-image image (λ w s I. let J = of-version w s I in absurd (false≢true (sym h ∙ J .version))) }
 
-  module _ (m : List ℕ) (built : (s : State) → Sound s → s .parked ≡ false → image ≡ imageOf v s → m ≡ bytesOf s) where
+  module _ (m : List ℕ) (built : (s : State) → Sound s → s .parked ≡ false → image ≡ imageOf v s → m ≡ memoryOf s) where
     -- a good image's memory is sound, and its image is these bytes
     good-memory : (s : State) → Image v s image → (soundBytes m ≡ true) × (stateOf m ≡ s)
     good-memory s I =
-        let e : m ≡ bytesOf s = built s (I .state) (I .unmarked) (I .bytes) in
+        let e : m ≡ memoryOf s = built s (I .state) (I .unmarked) (I .bytes) in
         (rw e (sound-memory (I .state)), rw e (sound-state (I .state)))
 
     -- the memory built is not parked: it is that of the state without the mark, whose image is the same
@@ -97,7 +97,7 @@ module _ (image : List ℕ) (v : ℕ) (version : v ≡ getD image 0 0) where
     unfolding imageOf lists
     unmarked-built h e =
         let S = mark-kept false (memory-sound m h .state) in
-        let is : m ≡ bytesOf (withMark (stateOf m) false) = built (withMark (stateOf m) false) S refl e in
+        let is : m ≡ memoryOf (withMark (stateOf m) false) = built (withMark (stateOf m) false) S refl e in
         ap (λ (x : List ℕ). stateOf x .parked) is ∙ ap (λ (s : State). s .parked) (sound-state S)
 
     pub received-unsound : soundBytes m ≡ false → Received image false m

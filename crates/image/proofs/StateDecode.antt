@@ -17,7 +17,8 @@ use Rattle.rules.specs.State.{Channel, State, Scan as ScanPoint, fresh, withSca
 use Rattle.rules.specs.Facts.{Edition, Sound}
 use Rattle.rules.proofs.Kept.{fresh-sound}
 use Rattle.memory.specs.Names as the
-use Rattle.memory.specs.Layout.{place, width, bytesOf, memoryLength}
+use Rattle.memory.specs.Layout.{place, width, bytesOf, baseLength, memoryLength}
+use Rattle.memory.specs.Memory.{base}
 use Rattle.memory.specs.Reading.{rowCountAt}
 use Rattle.memory.specs.Edits.{withRows, rowJoined, withOrder}
 use Rattle.memory.specs.Fits.{Fits}
@@ -25,6 +26,7 @@ use Rattle.memory.specs.Point.{inNumbers}
 use Rattle.memory.specs.declared.point.Scan.{Scan}
 use Rattle.memory.proofs.Fitting.{rows-few, mask-fits}
 use Rattle.memory.proofs.SoundFits.{sound-fits}
+use Rattle.memory.proofs.Base.{memory-base}
 use Rattle.memory.proofs.Fresh.{fresh-bytes}
 use Rattle.memory.proofs.PointEdits.{fits-order}
 use Rattle.memory.proofs.RowEdits.{fits-joined, room-to-join}
@@ -98,10 +100,12 @@ module _ (image : List ℕ) (n : ℕ) (s : State) (rows rest : List ℕ) (once :
 
 -- ---- the edition, the order and the scan point
 
--- zeros with an edition in its place are the fresh state's memory
-pub edition-stored : {m : List ℕ} (edition e : ℕ) → m ≡ replicate memoryLength 0 → (edition < 256 → e ≡ edition) → Edition edition
+-- zeros with an edition in its place are the fresh state's base
+pub edition-stored : {m : List ℕ} (edition e : ℕ) → m ≡ replicate baseLength 0 → (edition < 256 → e ≡ edition) → Edition edition
     → set m (place the.edition) e ≡ bytesOf (fresh edition)
-edition-stored edition e zeros low E = rw (zeros, low (omega (arith, E .1))) (sym (fresh-bytes edition E))
+edition-stored edition e zeros low E =
+    let front : base (set (replicate memoryLength 0) (place the.edition) edition) ≡ set (replicate baseLength 0) (place the.edition) edition = refl in
+    rw (zeros, low (omega (arith, E .1))) (sym front ∙ ap base (sym (fresh-bytes edition E)) ∙ memory-base (fresh-sound edition E))
 
 pub visit-up : (n : ℕ) (o : Option ℕ) → n < 255 → n ≡ visitByte o → n + 1 ≡ visitNumber o
 visit-up n none l e = absurd (omega arith)

@@ -6,12 +6,12 @@ use mathlib.Core.List.{List}
 use mathlib.Core.Option.{none, some}
 use Rattle.rules.specs.State.{State}
 use Rattle.rules.specs.Facts.{Sound}
-use Rattle.memory.specs.Layout.{bytesOf}
+use Rattle.memory.specs.Layout.{memoryOf}
 use Rattle.image.specs.Reading.{imageState}
 
 -- where t is true it is that of the image's state, and where t is false the image is no sound state's
 abbrev pub ReceivedIf : List ℕ → Bool → List ℕ → Type 0
-ReceivedIf image true m = (s : State) × Sound s × (imageState image ≡ some s) × (m ≡ bytesOf s)
+ReceivedIf image true m = (s : State) × Sound s × (imageState image ≡ some s) × (m ≡ memoryOf s)
 ReceivedIf image false m = imageState image ≡ none
 
 pub record Received (image : List ℕ) (t : Bool) (m : List ℕ) : Type 0 where

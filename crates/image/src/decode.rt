@@ -1,4 +1,4 @@
-// A memory built from an image, part by part.
+// The base of a memory built from an image, part by part.
 //
 // Nothing is refused here: what has no room is left out, and the reader finds out by writing the memory again. So each contract speaks of good
 // images alone: where the image goes on with what is read, the memory goes on to the state with it.
@@ -32,7 +32,7 @@ ghost use Rattle.rules.specs.Numbers.{slots};
 ghost use Rattle.rules.specs.State.{Record, Channel, State, fresh, at as slotAt, withChannel, kindNumber, visitNumber};
 ghost use Rattle.rules.specs.Facts.{Edition, Sound};
 ghost use Rattle.memory.specs.Names as the;
-ghost use Rattle.memory.specs.Layout.{width, bytesOf, memoryLength};
+ghost use Rattle.memory.specs.Layout.{width, bytesOf, baseLength};
 ghost use Rattle.memory.specs.Reading.{firstAt};
 ghost use Rattle.memory.specs.Edits.{recordAdded, queueNow, withRows, rowJoined};
 ghost use Rattle.memory.specs.Fits.{SlotFits, Fits};
@@ -44,7 +44,7 @@ ghost use Rattle.image.specs.Decoding.{Reached, NoneBehind, withChannels
 
 // One record more for a slot, at a place of the run.
 fn read_record(memory: &mut [u8], image: &[u8], at: usize, slot: usize, place: usize) -> usize
-    requires { ⌜ (length (now memory) ≡ memoryLength) × (slot < slots) × (at + recordBytes ≤ farthest) ⌝ }
+    requires { ⌜ (length (now memory) ≡ baseLength) × (slot < slots) × (at + recordBytes ≤ farthest) ⌝ }
     ensures { λ r. ⌜ (r ≡ at + recordBytes) × ((s : State) (x : Record) (rest : List ℕ) → Fits (recordAdded s slot x) → Ends (now (memory .entry)) slot place
         → Reached (now (image .entry)) at (laid (recordParts x) ++ rest) (now (memory .entry)) s
         → Reached (now (image .entry)) r rest (now (memory .exit)) (recordAdded s slot x)) ⌝ }
@@ -71,7 +71,7 @@ fn read_records(
     place: usize,
     count: usize,
 ) -> usize
-    requires { ⌜ (length (now memory) ≡ memoryLength) × (slot < slots) × (place ≤ farthest) × (count < 256) × (at + recordBytes * count ≤ farthest) ⌝ }
+    requires { ⌜ (length (now memory) ≡ baseLength) × (slot < slots) × (place ≤ farthest) × (count < 256) × (at + recordBytes * count ≤ farthest) ⌝ }
     ensures { λ r. ⌜ (r ≡ at + recordBytes * count) × ((s : State) (xs : List Record) (rest : List ℕ) → Fits (queueNow s slot xs) → length xs ≡ count → NoneBehind s slot
         → place ≡ firstAt (now (memory .entry)) slots → Reached (now (image .entry)) at (recordsBytes xs ++ rest) (now (memory .entry)) (queueNow s slot [])
         → Reached (now (image .entry)) r rest (now (memory .exit)) (queueNow s slot xs)) ⌝ }
@@ -105,7 +105,7 @@ fn store_slot(
     deficit: u64,
     serial: u64,
 )
-    requires { ⌜ (length (now memory) ≡ memoryLength) × (slot < slots) ⌝ }
+    requires { ⌜ (length (now memory) ≡ baseLength) × (slot < slots) ⌝ }
     ensures { λ _. ⌜ ((s : State) (c : Channel) → SlotFits c → Fits s → now (memory .entry) ≡ bytesOf s → kind ≡ kindNumber (c .kind) → ticket ≡ c .ticket
         → weight ≡ c .weight → deficit ≡ c .deficit → serial ≡ c .serial → c .waiting ≡ slotAt (s .channels) slot .waiting
         → now (memory .exit) ≡ bytesOf (withChannel s slot c)) ⌝ }
@@ -137,7 +137,7 @@ fn read_slot(
     place: usize,
     version: usize,
 ) -> usize
-    requires { ⌜ (length (now memory) ≡ memoryLength) × (slot < slots) × (at + entryMost ≤ farthest) × (place ≤ farthest) × (1 ≤ version) × (version ≤ newest) ⌝ }
+    requires { ⌜ (length (now memory) ≡ baseLength) × (slot < slots) × (at + entryMost ≤ farthest) × (place ≤ farthest) × (1 ≤ version) × (version ≤ newest) ⌝ }
     ensures { λ r. ⌜ (r ≤ at + entryMost) × ((s : State) (c : Channel) (rest : List ℕ) → Fits (withChannel s slot c) → slotAt (s .channels) slot .waiting ≡ [] → NoneBehind s slot
         → place ≡ firstAt (now (memory .entry)) slots → Reached (now (image .entry)) at (entry version c ++ rest) (now (memory .entry)) s
         → Reached (now (image .entry)) r rest (now (memory .exit)) (withChannel s slot c)) ⌝ }
@@ -161,7 +161,7 @@ fn read_slot(
 
 // "then the 64 slots in turn", into a fresh memory.
 fn read_slots(memory: &mut [u8], image: &[u8], at: usize, version: usize) -> usize
-    requires { ⌜ (length (now memory) ≡ memoryLength) × (at + slots * entryMost ≤ farthest) × (1 ≤ version) × (version ≤ newest) ⌝ }
+    requires { ⌜ (length (now memory) ≡ baseLength) × (at + slots * entryMost ≤ farthest) × (1 ≤ version) × (version ≤ newest) ⌝ }
     ensures { λ r. ⌜ ((e : ℕ) (cs : List Channel) → Fits (withChannels (fresh e) cs)
         → Reached (now (image .entry)) at (entries version cs) (now (memory .entry)) (fresh e)
         → Reached (now (image .entry)) r [] (now (memory .exit)) (withChannels (fresh e) cs)) ⌝ }
@@ -179,7 +179,7 @@ fn read_slots(memory: &mut [u8], image: &[u8], at: usize, version: usize) -> usi
 
 // One row more.
 fn read_row(memory: &mut [u8], image: &[u8], at: usize)
-    requires { ⌜ length (now memory) ≡ memoryLength ⌝ }
+    requires { ⌜ length (now memory) ≡ baseLength ⌝ }
     ensures { λ _. ⌜ ((s : State) → Fits s → now (memory .entry) ≡ bytesOf s → getD (now (image .entry)) at 0 < slots → occurs (getD (now (image .entry)) at 0) (s .rows) ≡ 0
         → now (memory .exit) ≡ bytesOf (rowJoined s (getD (now (image .entry)) at 0))) ⌝ }
 {
@@ -193,7 +193,7 @@ fn read_row(memory: &mut [u8], image: &[u8], at: usize)
 
 // The rows, into a memory that has none.
 fn read_rows(memory: &mut [u8], image: &[u8], at: usize, count: usize)
-    requires { ⌜ (length (now memory) ≡ memoryLength) × (at ≤ farthest) × (count < 256) ⌝ }
+    requires { ⌜ (length (now memory) ≡ baseLength) × (at ≤ farthest) × (count < 256) ⌝ }
     ensures { λ _. ⌜ ((s : State) (rows rest : List ℕ) → Once rows → NoneFrom slots rows → length rows ≡ count → drop at (now (image .entry)) ≡ rows ++ rest
         → Fits (withRows s []) → now (memory .entry) ≡ bytesOf (withRows s []) → Fits (withRows s rows) × (now (memory .exit) ≡ bytesOf (withRows s rows))) ⌝ }
 {
@@ -216,7 +216,7 @@ fn visit_number(number: u64) -> u8
 
 // The order and the scan point.
 fn store_point(memory: &mut [u8], order: u64, position: u64, column: u64, mask: u64, visit: u64)
-    requires { ⌜ length (now memory) ≡ memoryLength ⌝ }
+    requires { ⌜ length (now memory) ≡ baseLength ⌝ }
     ensures { λ _. ⌜ ((s t : State) → Fits s → Fits t → t .edition ≡ s .edition → t .channels ≡ s .channels → t .rows ≡ s .rows → t .parked ≡ s .parked → now (memory .entry) ≡ bytesOf t
         → order ≡ s .order → position ≡ s .scan .position → column ≡ s .scan .column → mask ≡ maskOf (s .scan .toVisit) → visit ≡ visitByte (s .scan .visit)
         → now (memory .exit) ≡ bytesOf s) ⌝ }
@@ -239,16 +239,16 @@ fn store_point(memory: &mut [u8], order: u64, position: u64, column: u64, mask: 
 
 // A memory of zeros becomes the fresh one of an edition.
 fn store_edition(memory: &mut [u8], edition: u64)
-    requires { ⌜ now memory ≡ replicate memoryLength 0 ⌝ }
+    requires { ⌜ now memory ≡ replicate baseLength 0 ⌝ }
     ensures { λ _. ⌜ (Edition edition → now (memory .exit) ≡ bytesOf (fresh edition)) ⌝ }
 {
     let e = low_u8(edition);
     memory[EDITION] = e;
 }
 
-// A memory of zeros becomes that of an image's state.
+// A base of zeros becomes that of an image's state.
 pub fn decode(memory: &mut [u8], image: &[u8], version: usize)
-    requires { ⌜ (now memory ≡ replicate memoryLength 0) × (1 ≤ version) × (version ≤ newest) ⌝ }
+    requires { ⌜ (now memory ≡ replicate baseLength 0) × (1 ≤ version) × (version ≤ newest) ⌝ }
     ensures { λ _. ⌜ ((s : State) → Sound s → s .parked ≡ false → now (image .entry) ≡ imageOf version s → now (memory .exit) ≡ bytesOf s) ⌝ }
 {
     let wide = 2 * version;

@@ -5,11 +5,13 @@
 use super::RECORD_BYTES;
 use super::UnparkAnswer;
 use super::decode::decode;
+use super::notes::note_all;
 use super::parts::put_bytes;
 use super::taking::byte_at;
 use super::writer::length_of;
 use super::writer::put_image;
 use answers::Refusal;
+use memory::layout::BASE;
 use memory::layout::CELLS;
 use memory::layout::LENGTH;
 use rules::SLOTS;
@@ -20,7 +22,7 @@ ghost use Prim.Native.Nat.{_≤_};
 ghost use lib.ListN.{length, replicate};
 ghost use Rattle.memory.specs.Layout.{memoryLength};
 ghost use Rattle.memory.specs.Reading.{stateOf};
-ghost use Rattle.memory.specs.Memory.{same, soundBytes};
+ghost use Rattle.memory.specs.Memory.{same, soundBase};
 ghost use Rattle.image.specs.Image.{imageOf};
 ghost use Rattle.image.specs.Reading.{newest, known};
 ghost use Rattle.image.specs.Parked.{leaving, readOn};
@@ -54,9 +56,9 @@ fn is_same(a: &[u8], b: &[u8]) -> bool
     ok
 }
 
-// Whether the memory's own image is these bytes.
+// Whether a base's own image is these bytes.
 fn is_image(memory: &[u8], image: &[u8], version: usize) -> bool
-    requires { ⌜ (soundBytes (now memory) ≡ true) × (1 ≤ version) × (version ≤ newest) ⌝ }
+    requires { ⌜ (soundBase (now memory) ≡ true) × (1 ≤ version) × (version ≤ newest) ⌝ }
     ensures { λ r. ⌜ r ≡ same (imageOf version (stateOf (now (memory .entry)))) (now (image .entry)) ⌝ }
 {
     let size = length_of(memory, version);
@@ -77,11 +79,13 @@ fn receive(memory: &mut [u8], image: &[u8]) -> bool
     if !is_known(version) {
         return false;
     }
-    decode(memory, image, version);
+    let end = BASE;
+    decode(&mut memory[..end], image, version);
+    note_all(memory);
     if !check(memory) {
         return false;
     }
-    is_image(memory, image, version)
+    is_image(&memory[..end], image, version)
 }
 
 // The reader: 10 for the length alone, then 15, and each lent byte stays; else the lent memory becomes that of the image's state.

@@ -9,6 +9,7 @@ use super::parts::put_parts;
 use answers::Refusal;
 use memory::heads::load_head;
 use memory::heads::waiting_of;
+use memory::layout::BASE;
 use memory::layout::EDITION;
 use memory::layout::ROWS;
 use memory::point::is_parked;
@@ -27,18 +28,18 @@ ghost use Rattle.lists.specs.Tabs.{tab};
 ghost use Rattle.octets.specs.Writing.{Written};
 ghost use Rattle.rules.specs.Numbers.{slots, cells};
 ghost use Rattle.memory.specs.Names as the;
-ghost use Rattle.memory.specs.Layout.{memoryLength};
+ghost use Rattle.memory.specs.Layout.{baseLength};
 ghost use Rattle.memory.specs.Reading.{byteIn, slotInVisit, waitingAt, firstAt, recordAt, channelAt, stateOf};
-ghost use Rattle.memory.specs.Memory.{soundBytes};
+ghost use Rattle.memory.specs.Memory.{soundBase};
 ghost use Rattle.image.specs.Parts.{laid};
 ghost use Rattle.image.specs.Image.{recordBytes, recordsBytes, fixed, entry, entries, visitByte, headParts, imageOf};
 ghost use Rattle.image.specs.Reading.{newest};
-ghost use Rattle.image.specs.Parked.{parking, parkOn};
+ghost use Rattle.image.specs.Parked.{parking, storedBase, parkOn};
 ghost use Rattle.image.specs.Told.{parkTold};
 
 // The records of the run from a place on: "each record's length (2) and reference (4)".
 fn put_records(buffer: &mut [u8], at: usize, state: &[u8], place: usize, count: usize) -> usize
-    requires { ⌜ (length (now state) ≡ memoryLength) × (place + count ≤ cells) × (at + recordBytes * count ≤ length (now buffer)) ⌝ }
+    requires { ⌜ (length (now state) ≡ baseLength) × (place + count ≤ cells) × (at + recordBytes * count ≤ length (now buffer)) ⌝ }
     ensures { λ r. ⌜ Written (now (buffer .entry)) at (recordsBytes (tab count (λ i. recordAt (now (state .entry)) (place + i)))) r (now (buffer .exit)) ⌝ }
 {
     let widths = [2, 4];
@@ -62,7 +63,7 @@ fn put_slot(
     place: usize,
     version: usize,
 ) -> usize
-    requires { ⌜ (length (now state) ≡ memoryLength) × (slot < slots) × (byteIn the.kind (now state) slot ≤ 2) × (place ≡ firstAt (now state) slot)
+    requires { ⌜ (length (now state) ≡ baseLength) × (slot < slots) × (byteIn the.kind (now state) slot ≤ 2) × (place ≡ firstAt (now state) slot)
         × (place + waitingAt (now state) slot ≤ cells) × (1 ≤ version) × (version ≤ newest)
         × (at + (fixed version + recordBytes * waitingAt (now state) slot) ≤ length (now buffer)) ⌝ }
     ensures { λ r. ⌜ Written (now (buffer .entry)) at (entry version (channelAt (now (state .entry)) slot)) r (now (buffer .exit)) ⌝ }
@@ -86,7 +87,7 @@ fn put_slot(
 
 // "then the 64 slots in turn"
 fn put_slots(buffer: &mut [u8], at: usize, state: &[u8], version: usize) -> usize
-    requires { ⌜ (soundBytes (now state) ≡ true) × (1 ≤ version) × (version ≤ newest)
+    requires { ⌜ (soundBase (now state) ≡ true) × (1 ≤ version) × (version ≤ newest)
         × (at + (slots * fixed version + recordBytes * firstAt (now state) slots) ≤ length (now buffer)) ⌝ }
     ensures { λ r. ⌜ Written (now (buffer .entry)) at (entries version (tab slots (channelAt (now (state .entry))))) r (now (buffer .exit)) ⌝ }
 {
@@ -113,7 +114,7 @@ fn visit_byte(visit: u8) -> u8
 
 // The head of an image of so many bytes: all but the rows and the slots.
 fn put_head(buffer: &mut [u8], state: &[u8], version: usize, size: usize) -> usize
-    requires { ⌜ (soundBytes (now state) ≡ true) × (1 ≤ version) × (version ≤ newest) × (size ≡ length (imageOf version (stateOf (now state)))) × (size ≤ length (now buffer)) ⌝ }
+    requires { ⌜ (soundBase (now state) ≡ true) × (1 ≤ version) × (version ≤ newest) × (size ≡ length (imageOf version (stateOf (now state)))) × (size ≤ length (now buffer)) ⌝ }
     ensures { λ r. ⌜ Written (now (buffer .entry)) 0 (laid (headParts version (stateOf (now (state .entry))))) r (now (buffer .exit)) ⌝ }
 {
     let scan = load_scan(state);
@@ -138,7 +139,7 @@ fn put_head(buffer: &mut [u8], state: &[u8], version: usize, size: usize) -> usi
 
 // The length of a memory's image.
 pub fn length_of(state: &[u8], version: usize) -> usize
-    requires { ⌜ (soundBytes (now state) ≡ true) × (1 ≤ version) × (version ≤ newest) ⌝ }
+    requires { ⌜ (soundBase (now state) ≡ true) × (1 ≤ version) × (version ≤ newest) ⌝ }
     ensures { λ r. ⌜ r ≡ length (imageOf version (stateOf (now (state .entry)))) ⌝ }
 {
     let count = row_count(state);
@@ -149,7 +150,7 @@ pub fn length_of(state: &[u8], version: usize) -> usize
 
 // The image, in a buffer that holds it.
 pub fn put_image(buffer: &mut [u8], state: &[u8], version: usize, size: usize) -> usize
-    requires { ⌜ (soundBytes (now state) ≡ true) × (1 ≤ version) × (version ≤ newest) × (size ≡ length (imageOf version (stateOf (now state)))) × (size ≤ length (now buffer)) ⌝ }
+    requires { ⌜ (soundBase (now state) ≡ true) × (1 ≤ version) × (version ≤ newest) × (size ≡ length (imageOf version (stateOf (now state)))) × (size ≤ length (now buffer)) ⌝ }
     ensures { λ r. ⌜ Written (now (buffer .entry)) 0 (imageOf version (stateOf (now (state .entry)))) r (now (buffer .exit)) ⌝ }
 {
     let head = put_head(buffer, state, version, size);
@@ -169,6 +170,15 @@ pub fn park_version(state: &mut [u8], image: &mut [u8], version: usize) -> ParkA
     if is_parked(state) {
         return ParkAnswer::Refused(Refusal::Parked);
     }
+    let end = BASE;
+    park_on(&mut state[..end], image, version)
+}
+
+// The writer on the base of a memory that takes calls: the image is of the base alone, and the notes stay.
+fn park_on(state: &mut [u8], image: &mut [u8], version: usize) -> ParkAnswer
+    requires { ⌜ (soundBase (now state) ≡ true) × (1 ≤ version) × (version ≤ newest) ⌝ }
+    ensures { λ r. ⌜ parking (parkTold r) (now (state .exit)) (now (image .exit)) ≡ storedBase (imageOf version (stateOf (now (state .entry)))) (now (state .entry)) (now (image .entry)) ⌝ }
+{
     let size = length_of(state, version);
     if image.len() < size {
         return ParkAnswer::Refused(Refusal::ShortBuffer);

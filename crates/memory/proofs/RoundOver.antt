@@ -18,7 +18,7 @@ use Rattle.memory.specs.Layout.{bytesOf}
 use Rattle.memory.specs.Reading.{byteIn, stateOf}
 use Rattle.memory.specs.Fits.{Fits}
 use Rattle.memory.specs.Point.{holdsAt, overAt}
-use Rattle.memory.specs.SoundMemory.{SoundMemoryTo}
+use Rattle.memory.specs.SoundMemory.{SoundBaseTo}
 use Rattle.memory.proofs.Fitting.{length-bytes}
 use Rattle.memory.proofs.SoundFits.{sound-fits}
 use Rattle.memory.proofs.Lanes.{row-count-is, order-is, position-is, mask-is, visit-is, edition-is}
@@ -58,7 +58,7 @@ module _ {s : State} (F : Fits s) where
   over-is = rw (holds-is, visit-is F, none-visit (s .scan .visit), mask-is F, none-listed (s .scan .toVisit), position-is F, order-is F)
 
 -- the memory of a state that is sound as far as its stage asks is such a memory
-pub stands : {t : Stage} {s : State} → SoundTo t s → SoundMemoryTo t (bytesOf s)
+pub stands : {t : Stage} {s : State} → SoundTo t s → SoundBaseTo t (bytesOf s)
 stands {t} {s} S =
     let F = sound-fits S in
     record { size = length-bytes F; state = rw (state-of-bytes F) S; bytes = ap bytesOf (state-of-bytes F) }

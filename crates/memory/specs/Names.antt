@@ -1,4 +1,4 @@
--- The fields of the lent memory, by name. (Layout.antt is the table that says where each stands.)
+-- The fields of the lent memory, by name. (Layout.antt has the tables that say where each stands.)
 use Prim.Native.Nat.{ℕ}
 
 pub data Name : Type 0 where
@@ -10,6 +10,8 @@ pub data Name : Type 0 where
   nothing : Name
   -- a number for each waiting record
   length reference : Name
+  -- the notes: a number for each slot, one number, a number for each listed slot
+  bytes listedCount fullest : Name
 
 -- a number for each name, by which names are told apart; which number it is says nothing
 abbrev pub code : Name → ℕ
@@ -31,3 +33,6 @@ code parked = 14
 code nothing = 15
 code length = 16
 code reference = 17
+code bytes = 18
+code listedCount = 19
+code fullest = 20

@@ -14,7 +14,7 @@ use Rattle.lists.proofs.TestLaws.{and-true}
 use Rattle.answers.specs.Answer.{numberOf, Answer, refused, given}
 use Rattle.rules.specs.State.{State, weights}
 use Rattle.rules.specs.Next.{Chosen, chooseBy, nextCall}
-use Rattle.rules.specs.Calls.{openCall, putCall, closeCall, Call, toOpen, toPut, toClose, toNext, toStart, toAsk}
+use Rattle.rules.specs.Calls.{openCall, putCall, closeCall, Call, toOpen, toPut, toClose, toNext, toStart, toAsk, toFullest}
 use Rattle.rules.specs.Listed.{openedFields, takenFields, closedFields, sentFields}
 use Rattle.memory.specs.Memory.{on, soundBytes}
 use Rattle.memory.specs.Reading.{stateOf}
@@ -166,6 +166,7 @@ under-bar b (some (toClose i t)) = no-more
 under-bar b (some toNext) = page-bar b
 under-bar b (some (toStart e)) = no-more
 under-bar b (some (toAsk i t)) = no-more
+under-bar b (some toFullest) = no-more
 
 -- ---- and lift's lines do not
 
@@ -192,6 +193,7 @@ answer-plain b (some (toClose i t)) = said-plain 67 closedFields refl refl (on (
 answer-plain b (some toNext) = said-plain 78 sentFields refl refl (on nextCall b .answer)
 answer-plain b (some (toStart e)) = unknown-plain
 answer-plain b (some (toAsk i t)) = unknown-plain
+answer-plain b (some toFullest) = unknown-plain
 
 -- ---- the lines without a bar
 

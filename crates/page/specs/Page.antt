@@ -19,7 +19,7 @@ use Rattle.spread.specs.Visits.{columnAt}
 use Rattle.rules.specs.Numbers.{slots}
 use Rattle.rules.specs.State.{State, weights}
 use Rattle.rules.specs.Next.{Chosen, chooseBy}
-use Rattle.rules.specs.Calls.{Call, toOpen, toPut, toClose, toNext, toStart, toAsk}
+use Rattle.rules.specs.Calls.{Call, toOpen, toPut, toClose, toNext, toStart, toAsk, toFullest}
 use Rattle.memory.specs.Memory.{soundBytes}
 use Rattle.memory.specs.Reading.{stateOf}
 use Rattle.text.specs.Digits.{digits}
@@ -137,6 +137,7 @@ pageUnder b (some (toClose i t)) = []
 pageUnder b (some toNext) = pageOn b
 pageUnder b (some (toStart e)) = []
 pageUnder b (some (toAsk i t)) = []
+pageUnder b (some toFullest) = []
 
 -- room for any page: two lines and one for each slot, none above this width
 abbrev pub lineRoom : ℕ

@@ -3,6 +3,7 @@
 // specs/Page.antt says what a page is, line by line; the contracts here say that exactly those bytes are put. The choice is made by the plain engine, and the
 // cells are those of its matrix.
 use bits::trailing_of;
+use memory::layout::BASE;
 use memory::point::Scan;
 use memory::point::is_parked;
 use memory::point::load_scan;
@@ -26,7 +27,7 @@ ghost use Rattle.spread.specs.Limits.{columns};
 ghost use Rattle.rules.specs.State.{weights};
 ghost use Rattle.memory.specs.Reading.{stateOf};
 ghost use Rattle.memory.specs.Search.{RowsWithin};
-ghost use Rattle.uplink.specs.Holds.{TakesCalls};
+ghost use Rattle.uplink.specs.Holds.{TakesSteps};
 ghost use Rattle.text.specs.Answers.{Stands};
 ghost use Rattle.text.specs.Commands.{commandOf};
 ghost use Rattle.text.specs.Lines.{lineAt};
@@ -90,9 +91,9 @@ fn put_body(state: &[u8], out: &mut [u8], at: usize, chosen: Chosen) -> usize
     rows::put_rows(state, &matrix, out, at, chosen)
 }
 
-// The page of a memory that takes calls and has rows, as what Next does on it.
+// The page of the base of a memory that takes calls and has rows, as what Next does on it.
 fn page_of(state: &[u8], out: &mut [u8]) -> usize
-    requires { ⌜ TakesCalls (now state) × (isEmpty (stateOf (now state) .rows) ≡ false) × (pageRoom ≤ length (now out)) ⌝ }
+    requires { ⌜ TakesSteps (now state) × (isEmpty (stateOf (now state) .rows) ≡ false) × (pageRoom ≤ length (now out)) ⌝ }
     ensures { λ r. ⌜ Puts (now (out .entry)) 0 (pageOf (stateOf (now (state .entry)))) r (now (out .exit)) ⌝ }
 {
     let scan = load_scan(state);
@@ -112,6 +113,15 @@ pub fn page(state: &[u8], out: &mut [u8]) -> usize
     if is_parked(state) {
         return 0;
     }
+    let end = BASE;
+    page_on(&state[..end], out)
+}
+
+// The page of the base of a memory that takes calls, and none where there are no rows.
+fn page_on(state: &[u8], out: &mut [u8]) -> usize
+    requires { ⌜ TakesSteps (now state) × (pageRoom ≤ length (now out)) ⌝ }
+    ensures { λ r. ⌜ Stands (pageOf (stateOf (now (state .entry)))) r (now (out .exit)) ⌝ }
+{
     if row_count(state) == 0 {
         return 0;
     }

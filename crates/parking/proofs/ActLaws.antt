@@ -18,7 +18,7 @@ use Rattle.rules.specs.State.{State, withMark}
 use Rattle.rules.specs.Calls.{Call, toStart, Fields, startCall, reply}
 use Rattle.rules.proofs.Cases.{by-start}
 use Rattle.rules.proofs.ParkedKept.{mark-kept, parked-reply}
-use Rattle.memory.specs.Layout.{bytesOf, memoryLength}
+use Rattle.memory.specs.Layout.{memoryOf, memoryLength}
 use Rattle.memory.specs.Reading.{stateOf}
 use Rattle.memory.specs.Memory.{soundBytes, Left, replied}
 use Rattle.memory.proofs.OneMemory.{memory-sound, sound-memory}
@@ -40,7 +40,7 @@ stateRead image = stateIn (versionIn image) image
 
 module _ (image b : List ℕ) where
   pub by-reading : (P : Left (Unit {0}) → Type 0) → ((n : Refusal) → P (leaving (refused n) b))
-      → (soundImage image ≡ true → length b ≡ memoryLength → P (leaving (given tt) (bytesOf (stateRead image)))) → P (readOn image b)
+      → (soundImage image ≡ true → length b ≡ memoryLength → P (leaving (given tt) (memoryOf (stateRead image)))) → P (readOn image b)
   unfolding readOn imageState
   by-reading P stays reads = go (eqb (length b) memoryLength) refl (soundImage image) refl
     where
@@ -50,7 +50,7 @@ module _ (image b : List ℕ) where
       go true l false g = stays badImage
       go false l u g = stays unsound
 
-  pub read-good : soundImage image ≡ true → length b ≡ memoryLength → readOn image b ≡ leaving (given tt) (bytesOf (stateRead image))
+  pub read-good : soundImage image ≡ true → length b ≡ memoryLength → readOn image b ≡ leaving (given tt) (memoryOf (stateRead image))
   unfolding readOn imageState
   read-good g l = rw (eq-eqb (length b) memoryLength l, g) refl
 
@@ -60,7 +60,7 @@ module _ (image b : List ℕ) where
   read-length : length (readOn image b .bytes) ≡ length b
   read-length =
       by-reading (λ x. length (x .bytes) ≡ length b) (λ n. refl)
-      (λ g l. memory-sound (bytesOf (stateRead image)) (sound-memory (sound-image image g .state)) .size ∙ sym l)
+      (λ g l. memory-sound (memoryOf (stateRead image)) (sound-memory (sound-image image g .state)) .size ∙ sym l)
 
   read-refused : 1 ≤ number (readOn image b .answer) → readOn image b .bytes ≡ b
   read-refused = by-reading (λ x. 1 ≤ number (x .answer) → x .bytes ≡ b) (λ n l. refl) (λ g l z. absurd (omega arith))
@@ -72,7 +72,7 @@ module _ (image b : List ℕ) where
 -- ---- the writer: memory and buffer are left, or the image stands in the buffer and the mark is set
 
 abbrev pub marked : List ℕ → List ℕ
-marked b = bytesOf (withMark (stateOf b) true)
+marked b = memoryOf (withMark (stateOf b) true)
 
 module _ (v : ℕ) (buffer b : List ℕ) where
   abbrev image : List ℕ

@@ -10,7 +10,7 @@ use Rattle.rules.specs.Calls.{Call, Fields, answerBy, run, InRange, AllInRange}
 use Rattle.memory.specs.Reading.{stateOf}
 use Rattle.memory.specs.Memory.{soundBytes}
 use Rattle.memory.proofs.OneMemory.{memory-sound, sound-memory}
-use Rattle.memory.proofs.RoundTrip.{sound-state}
+use Rattle.memory.proofs.Base.{sound-state}
 use Rattle.rules.proofs.ParkedKept.{mark-kept, mark-same, unparked-kept}
 use Rattle.lists.proofs.TestLaws.{true-and}
 use Rattle.promises.specs.Histories.{along, NoStart}

@@ -12,13 +12,13 @@ use Rattle.spread.specs.Limits.{outside}
 use Rattle.spread.proofs.Limits.{between}
 use Rattle.rules.specs.Numbers.{falling, holding}
 use Rattle.rules.specs.State.{Channel, at}
-use Rattle.rules.specs.Calls.{Call, toOpen, toPut, toClose, toNext, toStart, toAsk}
+use Rattle.rules.specs.Calls.{Call, toOpen, toPut, toClose, toNext, toStart, toAsk, toFullest}
 use Rattle.rules.specs.Facts.{Edition}
 use Rattle.memory.specs.Layout.{memoryLength}
 use Rattle.memory.specs.Reading.{stateOf}
 use Rattle.memory.specs.Memory.{soundBytes, Left}
 use Rattle.memory.proofs.OneMemory.{sound-memory}
-use Rattle.memory.proofs.RoundTrip.{sound-state}
+use Rattle.memory.proofs.Base.{sound-state}
 use Rattle.memory.proofs.Fresh.{fresh-memory-sound, fresh-memory-state}
 use Rattle.promises.specs.Histories.{Numbered, takes, sends, gives, nextSerial, waiting, restarts, names, ticketOf, turns}
 use Rattle.promises.proofs.OneSlot.{at-fresh}
@@ -46,6 +46,7 @@ start-only P start (toClose i t) q = absurd (false≢true q)
 start-only P start toNext q = absurd (false≢true q)
 start-only P start (toStart e) q = start e (between falling holding e (not-true (outside falling holding e) q))
 start-only P start (toAsk i t) q = absurd (false≢true q)
+start-only P start toFullest q = absurd (false≢true q)
 
 module _ (b : List ℕ) (l : length b ≡ memoryLength) where
   begun-fresh : (e : ℕ) → Edition e → Begun (stepBy b (toCall (toStart e))) (toCall (toStart e))

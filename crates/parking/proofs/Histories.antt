@@ -13,7 +13,7 @@ use Rattle.rules.specs.Reply.{Reply, answerOf}
 use Rattle.rules.specs.Calls.{Call, Fields, run}
 use Rattle.rules.specs.Facts.{Sound}
 use Rattle.rules.proofs.ParkedKept.{parked-reply}
-use Rattle.memory.specs.Layout.{bytesOf}
+use Rattle.memory.specs.Layout.{memoryOf}
 use Rattle.memory.specs.Reading.{stateOf}
 use Rattle.memory.specs.Memory.{soundBytes}
 use Rattle.memory.proofs.OneMemory.{memory-sound}
@@ -87,7 +87,7 @@ old-refused-on : (i t : ℕ) (b : List ℕ) (c : Call) → soundBytes b ≡ true
 old-refused-on i t b c e o q =
     let (two, stays) = old-refused i t (stateOf b) c (memory-sound b e .state) o q in
     record {
-      stays = step-bytes b c e ∙ ap bytesOf stays ∙ memory-sound b e .bytes;
+      stays = step-bytes b c e ∙ ap memoryOf stays ∙ memory-sound b e .bytes;
       two = λ m. number-on b c e ∙ two m;
       fourteen = λ m. number-on b c e ∙ ap (λ (r : Reply Fields). number (answerOf r)) (parked-reply c (stateOf b) (names-other i t c q) m);
     }

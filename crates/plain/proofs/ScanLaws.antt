@@ -24,7 +24,7 @@ use Rattle.rules.proofs.RoundEnd.{not-over, ending-not, ending-over, SameButOrd
 use Rattle.rules.proofs.Steps.{term-kept, ending-kept}
 use Rattle.rules.proofs.Choosing.{row-found}
 use Rattle.memory.specs.Reading.{stateOf}
-use Rattle.memory.specs.SoundMemory.{SoundMemory}
+use Rattle.memory.specs.SoundMemory.{SoundBase}
 use Rattle.visits.specs.Choice.{chosenOf, inChosen}
 use Rattle.visits.specs.declared.choose.Chosen.{Chosen}
 use Rattle.visits.proofs.ChoiceInNumbers.{rows-of}
@@ -122,7 +122,7 @@ some-noted : (l : List ℕ) (c : ℕ) → isEmpty l ≡ false → noted l c ≡ 
 some-noted [] c e = absurd (true≢false e)
 some-noted (i ∷ rest) c e = refl
 
-module _ {b : List ℕ} (M : SoundMemory b) (filled : isEmpty (stateOf b .rows) ≡ false) where
+module _ {b : List ℕ} (M : SoundBase b) (filled : isEmpty (stateOf b .rows) ≡ false) where
   -- a slot is chosen, so where none is left to visit a term may be taken
   one-more : (left n : ℕ) (s : State) → s .scan .toVisit ≡ [] → scanning left n s ≡ chosenOf (stateOf b)
       → (f : ℕ) × (left ≡ suc f) × (scanning f (suc n) (endingRound (termTaken s)) ≡ chosenOf (stateOf b))

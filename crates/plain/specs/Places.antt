@@ -13,7 +13,7 @@ use Rattle.rules.specs.State.{State, weights, orderOf, columnOf, holds}
 use Rattle.rules.specs.Next.{nextPosition, noted}
 use Rattle.memory.specs.Reading.{stateOf}
 use Rattle.memory.specs.Search.{RowsWithin}
-use Rattle.memory.specs.SoundMemory.{SoundMemory}
+use Rattle.memory.specs.SoundMemory.{SoundBase}
 use Rattle.visits.specs.Choice.{chosenOf, inChosen}
 use Rattle.visits.specs.declared.choose.Chosen.{Chosen}
 use Rattle.plain.specs.declared.scan.Place.{Place}
@@ -47,7 +47,7 @@ pub record Ends (b : List ℕ) (x : Place) : Type 0 where
 
 -- the first term is to be taken: no visit is open, none is left to visit, and x is where the memory b stands
 pub record Begins (b : List ℕ) (x : Place) : Type 0 where
-  pub memory : SoundMemory b
+  pub memory : SoundBase b
   pub filled : isEmpty (stateOf b .rows) ≡ false
   pub closed : stateOf b .scan .visit ≡ none
   pub empty : stateOf b .scan .toVisit ≡ []

@@ -29,7 +29,7 @@ pub fn close(state: &mut [u8], slot: u32, ticket: u32) -> CloseAnswer
     uplink::close::close(state, slot, ticket)
 }
 
-// Ask answers a channel's kind, weight, deficit and number waiting.
+// Ask answers a channel's kind, weight, deficit, number waiting and bytes waiting.
 pub fn ask(state: &[u8], slot: u32, ticket: u32) -> AskAnswer
     ensures { λ r. ⌜ leaving (askTold r) (now (state .entry)) ≡ on (askCall slot ticket) (now (state .entry)) ⌝ }
 {

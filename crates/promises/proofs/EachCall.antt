@@ -10,11 +10,11 @@ use Rattle.answers.specs.Answer.{Refusal, refused, given}
 use Rattle.rules.specs.State.{State, fresh, at}
 use Rattle.rules.specs.Reply.{Done, after}
 use Rattle.rules.specs.Next.{Sent, nextCall}
-use Rattle.rules.specs.Calls.{openCall, putCall, closeCall, askCall, startCall, Call, toOpen, toPut, toClose, toNext, toStart, toAsk, openFields, putFields, closeFields, nextFields, startFields, askFields, reply, step}
+use Rattle.rules.specs.Calls.{openCall, putCall, closeCall, askCall, fullestCall, startCall, Call, toOpen, toPut, toClose, toNext, toStart, toAsk, toFullest, openFields, putFields, closeFields, nextFields, startFields, askFields, fullestFields, reply, step}
 use Rattle.rules.specs.Facts.{Edition, Sound}
 use Rattle.rules.proofs.Cases.{by-answer, after-under, only-next}
 use Rattle.rules.proofs.Accepted.{start-taken}
-use Rattle.rules.proofs.Frames.{OpenLeaves, open-leaves, PutLeaves, put-leaves, CloseLeaves, close-leaves, ask-leaves}
+use Rattle.rules.proofs.Frames.{OpenLeaves, open-leaves, PutLeaves, put-leaves, CloseLeaves, close-leaves, ask-leaves, fullest-leaves}
 use Rattle.promises.specs.Moments.{isNext}
 use Rattle.promises.specs.Rounds.{Waiting, counted}
 use Rattle.promises.proofs.Waiting.{waits-row}
@@ -28,6 +28,7 @@ is-next (toClose i t) e = absurd (false≢true e)
 is-next toNext e = refl
 is-next (toStart x) e = absurd (false≢true e)
 is-next (toAsk i t) e = absurd (false≢true e)
+is-next toFullest e = absurd (false≢true e)
 
 pub step-next : (s : State) → step s toNext ≡ after s (nextCall s)
 unfolding step reply
@@ -108,3 +109,4 @@ module _ {s : State} (S : Sound s) where
   other-call toNext n = absurd (true≢false n)
   other-call (toStart e) n = rw (after-under startFields s (startCall e s)) (start-other e)
   other-call (toAsk j t) n = still (after-under askFields s (askCall j t s) ∙ ask-leaves j t s)
+  other-call toFullest n = still (after-under fullestFields s (fullestCall s) ∙ fullest-leaves s)

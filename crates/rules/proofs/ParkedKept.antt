@@ -9,14 +9,14 @@ use Rattle.rules.specs.Numbers.{falling, holding}
 use Rattle.rules.specs.State.{State, fresh, roundOver, withMark}
 use Rattle.rules.specs.Reply.{after, under}
 use Rattle.rules.specs.Next.{nextCall}
-use Rattle.rules.specs.Calls.{openCall, putCall, closeCall, askCall, Call, toOpen, toPut, toClose, toNext, toStart, toAsk, openFields, putFields, closeFields, nextFields, askFields, startCall, startFields, reply, step, run, ofStart, AllInRange}
+use Rattle.rules.specs.Calls.{openCall, putCall, closeCall, askCall, fullestCall, Call, toOpen, toPut, toClose, toNext, toStart, toAsk, toFullest, openFields, putFields, closeFields, nextFields, askFields, fullestFields, startCall, startFields, reply, step, run, ofStart, AllInRange}
 use Rattle.rules.specs.Facts.{Stage, SoundTo, Sound}
 use Rattle.rules.proofs.Cases.{by-answer, by-start, after-under}
-use Rattle.rules.proofs.Parking.{parked-open, parked-put, parked-close, parked-next, parked-ask}
+use Rattle.rules.proofs.Parking.{parked-open, parked-put, parked-close, parked-next, parked-ask, parked-fullest}
 use Rattle.rules.proofs.Accepted.{start-taken}
 use Rattle.rules.proofs.Kept.{step-kept}
 use Rattle.rules.proofs.RoundEnd.{end-same}
-use Rattle.rules.proofs.Frames.{open-leaves, put-leaves, close-leaves, ask-leaves}
+use Rattle.rules.proofs.Frames.{open-leaves, put-leaves, close-leaves, ask-leaves, fullest-leaves}
 use Rattle.rules.proofs.NextFrame.{next-leaves}
 
 -- with the mark set or not, a sound state is sound
@@ -59,6 +59,7 @@ parked-reply (toClose i t) s o e = ap (under closeFields) (parked-close s e i t)
 parked-reply toNext s o e = ap (under nextFields) (parked-next s e)
 parked-reply (toStart n) s o e = absurd (true≢false o)
 parked-reply (toAsk i t) s o e = ap (under askFields) (parked-ask s e i t)
+parked-reply toFullest s o e = ap (under fullestFields) (parked-fullest s e)
 
 pub parked-stays : (c : Call) (s : State) → Other c → s .parked ≡ true → step s c ≡ s
 unfolding step
@@ -81,6 +82,8 @@ parked-kept toNext {s} o S =
 parked-kept (toStart n) o S = absurd (true≢false o)
 parked-kept (toAsk i t) {s} o S =
     ap (λ (r : State). r .parked) (after-under askFields s (askCall i t s) ∙ ask-leaves i t s)
+parked-kept toFullest {s} o S =
+    ap (λ (r : State). r .parked) (after-under fullestFields s (fullestCall s) ∙ fullest-leaves s)
 
 -- so no call of these parks a state
 start-unparked : (n : ℕ) (s : State) → s .parked ≡ false → step s (toStart n) .parked ≡ false

@@ -8,7 +8,7 @@ use Rattle.answers.proofs.Answers.{checked-passed, checked-given}
 use Rattle.rules.specs.State.{State}
 use Rattle.rules.specs.Reply.{Done, Reply, unparked}
 use Rattle.rules.specs.Next.{nextCall}
-use Rattle.rules.specs.Calls.{openCall, putCall, closeCall, askCall}
+use Rattle.rules.specs.Calls.{openCall, putCall, closeCall, askCall, fullestCall}
 
 pub unparked-given : {A : Type 0} (s : State) {r : Reply A} {d : Done A} → unparked s r ≡ given d → (s .parked ≡ false) × (r ≡ given d)
 unparked-given s {r} e = let (p, q) = checked-given ((s .parked gives parked) ∷ []) r e in (p .0, q)
@@ -41,3 +41,7 @@ module _ (s : State) (e : s .parked ≡ true) where
   pub parked-ask : (i t : ℕ) → askCall i t s ≡ refused parked
   unfolding askCall
   parked-ask i t = parked-refused s _ e
+
+  pub parked-fullest : fullestCall s ≡ refused parked
+  unfolding fullestCall
+  parked-fullest = parked-refused s _ e

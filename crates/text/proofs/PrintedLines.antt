@@ -10,7 +10,7 @@ use lib.ListN.{length}
 use borrow.Author.Tests.{ne-eqb}
 use Rattle.answers.specs.Answer.{numberOf, Answer, refused, given}
 use Rattle.rules.specs.Next.{nextCall}
-use Rattle.rules.specs.Calls.{openCall, putCall, closeCall, Call, toOpen, toPut, toClose, toNext, toStart, toAsk}
+use Rattle.rules.specs.Calls.{openCall, putCall, closeCall, Call, toOpen, toPut, toClose, toNext, toStart, toAsk, toFullest}
 use Rattle.memory.specs.Memory.{on}
 use Rattle.text.specs.Lines.{linesOf}
 use Rattle.text.specs.Digits.{digits}
@@ -67,6 +67,7 @@ answer-is-line b (some (toClose i t)) = said-line 67 closedFields refl (on (clos
 answer-is-line b (some toNext) = said-line 78 sentFields refl (on nextCall b .answer)
 answer-is-line b (some (toStart e)) = unknown-line
 answer-is-line b (some (toAsk i t)) = unknown-line
+answer-is-line b (some toFullest) = unknown-line
 
 -- the lines that a text's lines print
 pub output-lines : (b : List ℕ) (ls : List (List ℕ)) → length (linesOf (output b ls)) ≡ length ls

@@ -16,10 +16,10 @@ use Rattle.rules.specs.Numbers.{falling}
 use Rattle.rules.specs.State.{State, fresh, cost, roundOver, orderOf, columnOf, sharedUse}
 use Rattle.rules.specs.Reply.{Reply, after}
 use Rattle.rules.specs.Next.{scanning, nextCall}
-use Rattle.rules.specs.Calls.{lowest, openCall, putCall, closeCall, Call, toOpen, toPut, toClose, toNext, toStart, toAsk}
+use Rattle.rules.specs.Calls.{lowest, openCall, putCall, closeCall, Call, toOpen, toPut, toClose, toNext, toStart, toAsk, toFullest}
 use Rattle.rules.specs.Facts.{Sound}
 use Rattle.rules.proofs.Kept.{open-kept, put-kept, close-kept, next-kept, fresh-sound}
-use Rattle.memory.specs.Layout.{bytesOf}
+use Rattle.memory.specs.Layout.{memoryOf}
 use Rattle.memory.specs.Memory.{replied, on}
 use Rattle.memory.proofs.OnLaws.{on-sound, on-after}
 use Rattle.text.specs.Lines.{linesOf}
@@ -56,6 +56,7 @@ ruledTo s (some (toClose i t)) = ruled s 67 closedFields (closeCall i t s)
 ruledTo s (some toNext) = ruled s 78 sentFields (nextCall s)
 ruledTo s (some (toStart e)) = passed s
 ruledTo s (some (toAsk i t)) = passed s
+ruledTo s (some toFullest) = passed s
 
 unfoldable pub ruledOutput : State → List (List ℕ) → List ℕ
 ruledOutput s [] = []
@@ -65,7 +66,7 @@ ruledOutput s (l ∷ ls) = ruledTo s (commandOf l) .line ++ ruledOutput (ruledTo
 
 record Follows (b : List ℕ) (s : State) (c : Option Call) : Type 0 where
   line : answerTo b c .line ≡ ruledTo s c .line
-  memory : answerTo b c .bytes ≡ bytesOf (ruledTo s c .state)
+  memory : answerTo b c .bytes ≡ memoryOf (ruledTo s c .state)
   sound : Sound (ruledTo s c .state)
 
 module _ {A : Type 0} (letter : ℕ) (fields : A → List ℕ) where
@@ -73,13 +74,13 @@ module _ {A : Type 0} (letter : ℕ) (fields : A → List ℕ) where
   reply-line b (refused n) = refl
   reply-line b (given d) = refl
 
-  on-line : (f : State → Reply A) {s : State} → Sound s → said letter fields (on f (bytesOf s) .answer) ≡ replyLine letter fields (f s)
-  on-line f {s} S = rw (on-sound f S) (reply-line (bytesOf s) (f s))
+  on-line : (f : State → Reply A) {s : State} → Sound s → said letter fields (on f (memoryOf s) .answer) ≡ replyLine letter fields (f s)
+  on-line f {s} S = rw (on-sound f S) (reply-line (memoryOf s) (f s))
 
-follows : {s : State} → Sound s → (l : List ℕ) → Follows (bytesOf s) s (commandOf l)
+follows : {s : State} → Sound s → (l : List ℕ) → Follows (memoryOf s) s (commandOf l)
 follows {s} S l = go (commandOf l) refl
   where
-    go : (c : Option Call) → commandOf l ≡ c → Follows (bytesOf s) s c
+    go : (c : Option Call) → commandOf l ≡ c → Follows (memoryOf s) s c
     go none e = record { line = refl; memory = refl; sound = S }
     go (some (toOpen w)) e = record { line = on-line 79 openedFields (openCall w) S; memory = on-after (openCall w) S; sound = open-kept w s S }
     go (some (toPut i t n r)) e =
@@ -92,8 +93,9 @@ follows {s} S l = go (commandOf l) refl
     go (some toNext) e = record { line = on-line 78 sentFields nextCall S; memory = on-after nextCall S; sound = next-kept s S }
     go (some (toStart n)) e = record { line = refl; memory = refl; sound = S }
     go (some (toAsk i t)) e = record { line = refl; memory = refl; sound = S }
+    go (some toFullest) e = record { line = refl; memory = refl; sound = S }
 
-pub output-ruled : {s : State} → Sound s → (ls : List (List ℕ)) → output (bytesOf s) ls ≡ ruledOutput s ls
+pub output-ruled : {s : State} → Sound s → (ls : List (List ℕ)) → output (memoryOf s) ls ≡ ruledOutput s ls
 unfolding output ruledOutput
 output-ruled S [] = refl
 output-ruled S (l ∷ ls) =

@@ -8,7 +8,7 @@ use Prim.Native.Nat.{ℕ, _≤_}
 use native.Mathlib.Omega.{arith}
 use lib.Dec.{eqb}
 use borrow.Author.Tests.{eqb-true}
-use Rattle.rules.specs.Calls.{Call, toOpen, toPut, toClose, toNext, toStart, toAsk}
+use Rattle.rules.specs.Calls.{Call, toOpen, toPut, toClose, toNext, toStart, toAsk, toFullest}
 use Rattle.text.specs.Digits.{largest, digits, Front, number, nothing, isDigit, spacedOff}
 use Rattle.text.specs.Commands.{spaced, shown, Decimals, Shows, byFront, withNumber, atEnd, openOf, putOf, closeOf, commandOf}
 use Rattle.text.proofs.NumberLaws.{Stops, spaced-read, spaced-written}
@@ -44,6 +44,7 @@ shown-read (toClose i t) l e h =
 shown-read toNext l e h = let is : l ≡ 78 ∷ [] = cc in ap commandOf is
 shown-read (toStart n) l e h = let z : _≡_ {A = ℕ} 0 1 = cc in absurd (omega arith)
 shown-read (toAsk i t) l e h = let z : _≡_ {A = ℕ} 0 1 = cc in absurd (omega arith)
+shown-read toFullest l e h = let z : _≡_ {A = ℕ} 0 1 = cc in absurd (omega arith)
 
 -- ---- What is read is written.
 

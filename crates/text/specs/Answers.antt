@@ -9,7 +9,7 @@ use lib.ListN.{length, take}
 use Rattle.answers.specs.Answer.{numberOf, Answer, refused, given}
 use Rattle.rules.specs.Numbers.{falling}
 use Rattle.rules.specs.Next.{nextCall}
-use Rattle.rules.specs.Calls.{openCall, putCall, closeCall, Call, toOpen, toPut, toClose, toNext, toStart, toAsk}
+use Rattle.rules.specs.Calls.{openCall, putCall, closeCall, Call, toOpen, toPut, toClose, toNext, toStart, toAsk, toFullest}
 use Rattle.rules.specs.Listed.{openedFields, takenFields, closedFields, sentFields}
 use Rattle.memory.specs.Memory.{Left, on, freshMemory}
 use Rattle.text.specs.Lines.{linesOf}
@@ -49,6 +49,7 @@ callAnswer b (toClose i t) = printed 67 closedFields (on (closeCall i t) b)
 callAnswer b toNext = printed 78 sentFields (on nextCall b)
 callAnswer b (toStart e) = other b
 callAnswer b (toAsk i t) = other b
+callAnswer b toFullest = other b
 
 -- "or `?` for a line of any other form"
 abbrev pub answerTo : List ℕ → Option Call → Printed

@@ -5,7 +5,7 @@ use mathlib.Core.List.{List, [], _∷_, _++_}
 use mathlib.Core.Option.{Option, none, some}
 use Prim.Native.Nat.{ℕ, _≤_}
 use lib.Dec.{eqb}
-use Rattle.rules.specs.Calls.{Call, toOpen, toPut, toClose, toNext, toStart, toAsk}
+use Rattle.rules.specs.Calls.{Call, toOpen, toPut, toClose, toNext, toStart, toAsk, toFullest}
 use Rattle.text.specs.declared.command.Command.{Command}
 use Rattle.text.specs.declared.command.Command.the-variants as command
 use Rattle.text.specs.Digits.{largest, digits, Front, number, nothing, spacedOff}
@@ -25,6 +25,7 @@ shown (toClose i t) = some (67 ∷ spaced (i ∷ t ∷ []))
 shown toNext = some (78 ∷ spaced [])
 shown (toStart e) = none
 shown (toAsk i t) = none
+shown toFullest = none
 
 -- "decimals up to 4,294,967,295": each number of the call is
 abbrev pub Decimals : Call → Type 0
@@ -34,6 +35,7 @@ Decimals (toClose i t) = (i ≤ largest) × (t ≤ largest)
 Decimals toNext = Unit {0}
 Decimals (toStart e) = Unit {0}
 Decimals (toAsk i t) = (i ≤ largest) × (t ≤ largest)
+Decimals toFullest = Unit {0}
 
 -- l is the line of the call c
 pub record Shows (l : List ℕ) (c : Call) : Type 0 where

@@ -1,9 +1,11 @@
 // Next: the slot is chosen, its head record is sent and paid for, the visit is settled, and the order is worked out again.
 use super::NextAnswer;
 use answers::Refusal;
+use fullest::noting::shrink;
 use memory::heads::Head;
 use memory::heads::load_head;
 use memory::heads::waiting_of;
+use memory::layout::BASE;
 use memory::point::is_parked;
 use memory::point::load_scan;
 use memory::records::first_of;
@@ -23,12 +25,12 @@ ghost use Prim.Native.Nat.{_+_, _-_, _*_, _%_, _≤_, _<_};
 ghost use lib.ListN.{length};
 ghost use Rattle.rules.specs.Numbers.{slots, granted, serials, grantLimit};
 ghost use Rattle.rules.specs.Next.{nextCall};
-ghost use Rattle.memory.specs.Layout.{memoryLength};
-ghost use Rattle.memory.specs.Memory.{replied, on};
+ghost use Rattle.memory.specs.Layout.{baseLength};
+ghost use Rattle.memory.specs.Memory.{replied, repliedBase, on};
 ghost use Rattle.memory.specs.Reading.{waitingAt, stateOf};
-ghost use Rattle.uplink.specs.Holds.{TakesCalls};
+ghost use Rattle.uplink.specs.Holds.{TakesCalls, TakesSteps};
 ghost use Rattle.uplink.specs.Told.{nextTold, leaving};
-ghost use Rattle.uplink.specs.NextSteps.{Sends};
+ghost use Rattle.uplink.specs.NextSteps.{Sends, SentFits, SentNoted};
 ghost use Rattle.visits.specs.Choice.{Chose};
 ghost use Rattle.visits.specs.Settle.{paidHead};
 
@@ -42,13 +44,44 @@ pub fn next(state: &mut [u8]) -> NextAnswer
     if is_parked(state) {
         return NextAnswer::Refused(Refusal::Parked);
     }
-    next_in(state)
+    next_noted(state)
 }
 
-// Next on a memory that takes calls.
-fn next_in(state: &mut [u8]) -> NextAnswer
+// Next on a memory that takes calls: on its base, and then the bytes of the slot that sent go down.
+fn next_noted(state: &mut [u8]) -> NextAnswer
     requires { ⌜ TakesCalls (now state) ⌝ }
     ensures { λ r. ⌜ leaving (nextTold r) (now (state .exit)) ≡ replied (now (state .entry)) (nextCall (stateOf (now (state .entry)))) ⌝ }
+{
+    let end = BASE;
+    let answer = next_in(&mut state[..end]);
+    note_sent(state, answer);
+    answer
+}
+
+// The notes after a send: the record's bytes are gone from its slot. A refusal leaves them.
+pub fn note_sent(state: &mut [u8], answer: NextAnswer)
+    requires { ⌜ SentFits (now state) answer ⌝ }
+    ensures { λ _. ⌜ SentNoted answer (now (state .entry)) (now (state .exit)) ⌝ }
+{
+    let NextAnswer::Sent {
+        slot,
+        ticket: _,
+        length,
+        reference: _,
+        serial: _,
+        started: _,
+        terms: _,
+    } = answer
+    else {
+        return;
+    };
+    shrink(state, slot as usize, length as u16);
+}
+
+// Next on the base of a memory that takes calls.
+fn next_in(state: &mut [u8]) -> NextAnswer
+    requires { ⌜ TakesSteps (now state) ⌝ }
+    ensures { λ r. ⌜ leaving (nextTold r) (now (state .exit)) ≡ repliedBase (now (state .entry)) (nextCall (stateOf (now (state .entry)))) ⌝ }
 {
     if row_count(state) == 0 {
         return NextAnswer::Refused(Refusal::NoneWaits);
@@ -87,7 +120,7 @@ pub fn send(state: &mut [u8], chosen: Chosen) -> NextAnswer
 
 // Serials go up by one, so the head record's is the next one less the number waiting.
 fn head_serial(state: &[u8], slot: usize, serial: u16) -> u16
-    requires { ⌜ (length (now state) ≡ memoryLength) × (slot < slots) ⌝ }
+    requires { ⌜ (length (now state) ≡ baseLength) × (slot < slots) ⌝ }
     ensures { λ r. ⌜ r ≡ (serial + serials - waitingAt (now (state .entry)) slot) % serials ⌝ }
 {
     let waiting = waiting_of(state, slot);

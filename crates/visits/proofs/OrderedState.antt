@@ -21,7 +21,7 @@ use Rattle.rules.proofs.RoundEnd.{ending-not}
 use Rattle.memory.specs.declared.heads.Head.{Head}
 use Rattle.memory.specs.declared.point.Scan.{Scan}
 use Rattle.memory.specs.Names as the
-use Rattle.memory.specs.Layout.{bytesOf, memoryLength}
+use Rattle.memory.specs.Layout.{bytesOf, baseLength}
 use Rattle.memory.specs.Reading.{numberIn, byteIn, waitingAt, stateOf}
 use Rattle.memory.specs.Fits.{Fits}
 use Rattle.memory.specs.Search.{RowsWait}
@@ -105,7 +105,7 @@ none-left [] = refl
 none-left (x ∷ xs) = ne-eqb (suc (length xs)) 0 (λ (e : suc (length xs) ≡ 0). omega arith)
 
 module _ {b : List ℕ} (u : Unordered b) where
-  pub order-within : (length b ≡ memoryLength) × (byteIn the.order b 0 ≤ columns)
+  pub order-within : (length b ≡ baseLength) × (byteIn the.order b 0 ≤ columns)
   unfolding stateOf
   order-within = (u .waits .size, u .order-low)
 

@@ -23,7 +23,7 @@ ghost use Rattle.lists.specs.Slots.{occurs};
 ghost use Rattle.rules.specs.Numbers.{slots};
 ghost use Rattle.rules.specs.State.{Record, Channel, State, at, withChannel, visitNumber};
 ghost use Rattle.rules.specs.Next as rules;
-ghost use Rattle.memory.specs.Layout.{bytesOf, memoryLength};
+ghost use Rattle.memory.specs.Layout.{bytesOf, baseLength};
 ghost use Rattle.memory.specs.Reading.{firstAt, rowCountAt, rowsAt};
 ghost use Rattle.memory.specs.Head.{headOf};
 ghost use Rattle.memory.specs.Edits.{rowGone};
@@ -81,7 +81,7 @@ fn row_left(state: &mut [u8], slot: usize, head: Head, scan: Scan)
 
 // The row leaves, and its channel is emptied.
 fn row_gone(state: &mut [u8], slot: usize, head: Head)
-    requires { ⌜ (length (now state) ≡ memoryLength) × (slot < slots) × (rowCountAt (now state) ≤ slots) × (1 ≤ occurs slot (rowsAt (now state))) ⌝ }
+    requires { ⌜ (length (now state) ≡ baseLength) × (slot < slots) × (rowCountAt (now state) ≤ slots) × (1 ≤ occurs slot (rowsAt (now state))) ⌝ }
     ensures { λ _. ⌜ ((s : State) (c : Channel) → Fits s → now (state .entry) ≡ bytesOf s → occurs slot (s .scan .toVisit) ≡ 0 → head ≡ headOf c → at (s .channels) slot .waiting ≡ []
         → now (state .exit) ≡ bytesOf (withChannel (rowGone s slot) slot (rules.emptied (c .kind) c))) ⌝ }
 {

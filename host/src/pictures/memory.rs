@@ -1,8 +1,8 @@
 //! docs/memory.svg: every field of the lent memory to scale, by the layout's table: lines of one byte a slot, the single numbers, planes of
-//! one byte a cell.
+//! one byte a cell, and the notes of how full the channels are.
 
 use super::svg::{grouped, solid, Picture, GREY, GROUNDS, HEAD, LEFT, MIDDLE, RIGHT, WHITE};
-use crate::layout::{Field, CELLS, FIELDS, LENGTH};
+use crate::layout::{Field, BYTES, CELLS, FIELDS, LENGTH, NOTHING};
 use crate::scheduler::SLOTS;
 
 /// A line of bytes: where it begins, how wide and how high it is, in every group.
@@ -14,36 +14,54 @@ const BYTE: f64 = 12.0;
 
 /// The file: the whole in one bar, then group by group.
 pub fn picture() -> String {
-    let (slots, records) = (group(|lanes| lanes == SLOTS), group(|lanes| lanes == CELLS));
-    let numbers = group(|lanes| lanes != SLOTS && lanes != CELLS);
+    let (base, notes) = FIELDS.split_at(FIELDS.iter().position(|field| field.start == BYTES.start).unwrap_or(FIELDS.len()));
+    let (slots, records) = (group(base, |lanes| lanes == SLOTS), group(base, |lanes| lanes == CELLS));
+    let numbers = group(base, |lanes| lanes != SLOTS && lanes != CELLS);
+    let (sums, list) = (group(notes, |lanes| lanes == SLOTS), group(notes, |lanes| lanes != SLOTS));
     let shows = format!(
-        "Every field of the memory to scale, from its first byte to its last: {} lines of {SLOTS} bytes for the slots ({}), {} bytes of single numbers ({}), and {} \
-         planes of {} bytes for the records ({}).",
+        "Every field of the memory to scale, from its first byte to its last: {} lines of {SLOTS} bytes for the slots ({}), {} bytes of single numbers ({}), {} \
+         planes of {} bytes for the records ({}), and {} bytes of notes, which say again how full the channels are: {} lines of {SLOTS} bytes ({}) and {} bytes of the \
+         list of the fullest ({}).",
         count(&slots),
         names(&slots),
-        span(&numbers).1 - span(&numbers).0,
+        length(&numbers),
         names(&numbers),
         count(&records),
         grouped(CELLS as u64),
-        names(&records)
+        names(&records),
+        length(notes),
+        count(&sums),
+        names(&sums),
+        length(&list),
+        names(&list)
     );
-    let mut picture = Picture::new(&format!("The lent memory: {} bytes", grouped(LENGTH as u64)), &shows, 876.0);
+    let mut picture = Picture::new(&format!("The lent memory: {} bytes", grouped(LENGTH as u64)), &shows, 1_046.0);
     let subtitle = "Byte j of lane i of a field stands at start + lanes x j + i. The first bar has one scale, each group below its own.";
     picture.words(LEFT, (20.0, 50.0), subtitle);
     legend(&mut picture, 74.0);
-    whole(&mut picture, 86.0, [("slots", &slots), ("single numbers", &numbers), ("records", &records)]);
+    whole(&mut picture, 86.0, [("slots", &slots), ("single numbers", &numbers), ("records", &records), ("notes", notes)]);
     let head = format!("Slots: {} lines of {SLOTS} bytes, one lane a slot (of rows: one lane a row)", count(&slots));
     lines(&mut picture, 158.0, &head, &slots);
-    single(&mut picture, 466.0, &numbers);
+    single(&mut picture, 466.0, &format!("Single numbers: {} bytes", length(&numbers)), &numbers);
     let head = format!("Records: {} planes of {} bytes, one lane a cell of the run", count(&records), grouped(CELLS as u64));
     lines(&mut picture, 672.0, &head, &records);
     run(&mut picture, 836.0);
+    let head =
+        format!("Notes, which say again how full the channels are: {} lines of {SLOTS} bytes, one lane a slot, and the list", count(&sums));
+    lines(&mut picture, 888.0, &head, &sums);
+    single(&mut picture, 956.0, "", &list);
     picture.finish()
 }
 
-/// The fields with so many lanes.
-fn group(lanes: impl Fn(usize) -> bool) -> Vec<&'static Field> {
-    FIELDS.into_iter().filter(|field| lanes(field.lanes)).collect()
+/// Those of the fields with so many lanes.
+fn group(fields: &[&'static Field], lanes: impl Fn(usize) -> bool) -> Vec<&'static Field> {
+    fields.iter().copied().filter(|field| lanes(field.lanes)).collect()
+}
+
+/// How many bytes a group has.
+fn length(fields: &[&Field]) -> usize {
+    let (start, end) = span(fields);
+    end - start
 }
 
 /// How many lines of bytes a group has: one for each byte of its fields' numbers.
@@ -81,16 +99,17 @@ fn legend(picture: &mut Picture, top: f64) {
 }
 
 /// The whole memory in one bar, all at one scale.
-fn whole(picture: &mut Picture, top: f64, groups: [(&str, &[&Field]); 3]) {
+fn whole(picture: &mut Picture, top: f64, groups: [(&str, &[&Field]); 4]) {
     let (left, scale) = (20.0, 860.0 / LENGTH as f64);
     for (number, (name, fields)) in groups.into_iter().enumerate() {
         let (start, end) = span(fields);
         let (x, width) = (left + scale * start as f64, scale * (end - start) as f64);
         picture.area((x, top), (width, 22.0), GROUNDS[number % 2]);
-        // The group in the middle is too narrow for words: its name stands above it, and the places left and right of it.
-        let name_at = if number == 1 { top - 6.0 } else { top + 15.0 };
+        // Two groups are too narrow for words: their names stand above them, and their places left of them.
+        let narrow = number % 2 == 1;
+        let name_at = if narrow { top - 6.0 } else { top + 15.0 };
         picture.words(MIDDLE, (x + width / 2.0, name_at), name);
-        let (face, at) = if number == 1 { (RIGHT, x - 1.0) } else { (LEFT, x) };
+        let (face, at) = if narrow { (RIGHT, x - 6.0) } else { (LEFT, x) };
         picture.words(face, (at, top + 37.0), &grouped(start as u64));
     }
     picture.words(RIGHT, (left + 860.0, top + 37.0), &grouped(LENGTH as u64));
@@ -132,13 +151,15 @@ fn byte_name(field: &Field, byte: usize) -> String {
 }
 
 /// The single numbers, byte by byte in one line; the leftmost has the longest leader, so that no leader crosses words.
-fn single(picture: &mut Picture, top: f64, fields: &[&Field]) {
-    let (start, end) = span(fields);
-    picture.words(HEAD, (20.0, top), &format!("Single numbers: {} bytes", end - start));
+fn single(picture: &mut Picture, top: f64, head: &str, fields: &[&Field]) {
+    let (start, _) = span(fields);
+    if !head.is_empty() {
+        picture.words(HEAD, (20.0, top), head);
+    }
     let bar = top + 14.0;
     for (number, field) in fields.iter().enumerate() {
         let x = EDGE + BYTE * (field.start - start) as f64;
-        let spare = number + 1 == fields.len();
+        let spare = field.start == NOTHING.start;
         for byte in 0..field.length() {
             let fill = if spare { WHITE } else { GROUNDS[number % 2] };
             picture.area((x + BYTE * byte as f64, bar), (BYTE, HIGH), fill);

@@ -6,9 +6,10 @@ mod common;
 
 pub use common::engine;
 
-use host::answers::{Added, Closed, Fields, Opened, Refusal, Sent};
+use host::answers::{Added, Closed, Fields, Fullest, Opened, Refusal, Sent, Told};
 use host::engine::Engine;
 use host::history::Call;
+use host::image::LONGEST_IMAGE;
 use host::layout::{sound_from_bytes, LENGTH};
 use host::model::answer_fields;
 use host::scheduler::{Scheduler, EDITIONS};
@@ -21,6 +22,11 @@ pub trait Calls {
     fn put(&mut self, slot: u32, ticket: u32, length: u32, reference: u32) -> Result<Added, Refusal>;
     fn close(&mut self, slot: u32, ticket: u32) -> Result<Closed, Refusal>;
     fn next(&mut self) -> Result<Sent, Refusal>;
+    fn ask(&mut self, slot: u32, ticket: u32) -> Result<Told, Refusal>;
+    fn fullest(&mut self) -> Result<Fullest, Refusal>;
+    /// The state is parked, its memory is lost, and the image is read.
+    fn change_firmware(&mut self);
+    fn park(&mut self) -> Result<(), Refusal>;
     fn term(&mut self, order: u32, position: u32) -> Result<u32, Refusal>;
     fn lead(&mut self, w1: u32, v1: u32, w2: u32, v2: u32) -> Result<i64, Refusal>;
     /// The sound state that the last call left.
@@ -63,6 +69,23 @@ impl Calls for Scheduler {
 
     fn next(&mut self) -> Result<Sent, Refusal> {
         Scheduler::next(self)
+    }
+
+    fn ask(&mut self, slot: u32, ticket: u32) -> Result<Told, Refusal> {
+        Scheduler::ask(self, slot, ticket)
+    }
+
+    fn fullest(&mut self) -> Result<Fullest, Refusal> {
+        Scheduler::fullest(self)
+    }
+
+    fn change_firmware(&mut self) {
+        let image = Scheduler::park(self, LONGEST_IMAGE).unwrap();
+        *self = Scheduler::unpark(&image).unwrap();
+    }
+
+    fn park(&mut self) -> Result<(), Refusal> {
+        Scheduler::park(self, LONGEST_IMAGE).map(|_| ())
     }
 
     fn term(&mut self, order: u32, position: u32) -> Result<u32, Refusal> {
@@ -121,6 +144,26 @@ impl<E: Engine> Calls for Lent<E> {
 
     fn next(&mut self) -> Result<Sent, Refusal> {
         self.fields(Call::Next)
+    }
+
+    fn ask(&mut self, slot: u32, ticket: u32) -> Result<Told, Refusal> {
+        self.fields(Call::Ask { slot, ticket })
+    }
+
+    fn fullest(&mut self) -> Result<Fullest, Refusal> {
+        self.fields(Call::Fullest)
+    }
+
+    fn change_firmware(&mut self) {
+        let (mut image, mut answer) = (vec![0xa5; LONGEST_IMAGE], [0; 4]);
+        assert_eq!(self.engine.park(&mut self.memory, &mut image, &mut answer), 0);
+        self.memory.fill(0xa5);
+        assert_eq!(self.engine.unpark(&mut self.memory, &mut image[..u32::from_le_bytes(answer) as usize]), 0);
+        assert_eq!(self.engine.parted(), None);
+    }
+
+    fn park(&mut self) -> Result<(), Refusal> {
+        self.answer(Call::Park { room: LONGEST_IMAGE }).map(|_| ())
     }
 
     fn term(&mut self, order: u32, position: u32) -> Result<u32, Refusal> {

@@ -2,10 +2,12 @@
 
 use host::engine::Engine;
 use host::history::{History, Step};
-use host::layout::{self, WAITING};
+use host::layout::{self, BYTES, WAITING};
 use host::model::Model;
 use host::scheduler::{Kind, Scheduler, KEPT, MOST_WAITING, SHARED};
 use host::sound::Rule;
+
+use super::fills::look_at_notes;
 
 /// A record was taken, and so many wait now.
 pub fn look_at_cells_taken(before: &Scheduler, after: &Scheduler, waiting: usize, met: &mut impl FnMut(&'static str, bool)) {
@@ -51,6 +53,7 @@ pub fn look_at_damage(history: History, met: &mut impl FnMut(&'static str, bool)
             Step::Call(call) => {
                 if !changed.is_empty() {
                     look_at_memory(&memory, &changed, met);
+                    look_at_notes(&memory, met);
                 }
                 changed.clear();
                 Model.call(&call, &mut memory, &mut call.image(), &mut vec![0; call.answer_length()]);
@@ -67,7 +70,8 @@ fn look_at_memory(memory: &[u8], changed: &[usize], met: &mut impl FnMut(&'stati
     met("more than 512 records", all > 512);
     met("more than 512 records, and no channel of more than 64", all > 512 && most <= Some(64));
     let Some(state) = layout::from_bytes(memory).filter(|state| layout::to_bytes(state) == memory) else { return };
-    let elsewhere = changed.iter().all(|place| WAITING.places().contains(place));
+    // The notes go with the numbers.
+    let elsewhere = changed.iter().all(|place| WAITING.places().contains(place) || *place >= BYTES.start);
     met("a sum of 384, with a record counted elsewhere", sum == 384 && elsewhere && state.sound());
     met("a sum of 385, and no other fault", sum == 385 && state.broken() == [Rule::Shared]);
     let alone = most == Some(65) && state.broken() == [Rule::Records];

@@ -1,6 +1,7 @@
 //! Wrong engines: the model engine with one slip each. The comparer must find every one.
 
 mod held;
+mod notes;
 mod parked;
 mod pool;
 mod slip;
@@ -9,7 +10,7 @@ use host::answers::{Opened, Refusal, Sent};
 use host::engine::Engine;
 use host::layout::{self, MARK};
 use host::model::{answer_bytes, apart, on, on_by_number};
-use host::scheduler::{Kind, Record, Scheduler, FRAMING, GOING, LAST_TICKET, LONGEST, MOST_WAITING};
+use host::scheduler::{Kind, Record, Scheduler, FRAMING, LAST_TICKET, LONGEST, MOST_WAITING};
 use host::spread;
 pub use slip::Slip;
 
@@ -43,7 +44,9 @@ impl Wrong {
             return Refusal::Parked.number();
         }
         if self.is(Slip::NothingUnchecked) && answer.len() == length {
-            if let Some(scheduler) = layout::from_bytes(state).filter(Scheduler::sound) {
+            let notes = layout::notes_from_bytes(state);
+            let right = |scheduler: &Scheduler| scheduler.sound() && notes.as_ref().is_some_and(|notes| notes.broken(scheduler).is_empty());
+            if let Some(scheduler) = layout::from_bytes(state).filter(right) {
                 layout::write(&scheduler, state);
             }
         }
@@ -59,7 +62,11 @@ impl Wrong {
                 layout::write(&passed, state);
             }
         }
+        let state_before = state.to_vec();
         let number = call(state, answer);
+        if number == 0 {
+            self.noted(&state_before, state);
+        }
         if self.is(Slip::AnswerKeptOnRefusal) && number != 0 {
             answer.copy_from_slice(&before);
         }
@@ -67,8 +74,11 @@ impl Wrong {
     }
 
     /// What the engine goes on with where a wrong check passes an unsound memory: one with a record a byte longer than the longest, with an open visit
-    /// whose deficit pays for the bare length of its head, at a round's end, or beyond a limit of room and shared cells.
+    /// whose deficit pays for the bare length of its head, at a round's end, beyond a limit of room and shared cells, or with notes that it trusts.
     fn passed(&self, state: &[u8]) -> Option<Scheduler> {
+        if let Some(passed) = self.notes_passed(state) {
+            return Some(passed);
+        }
         let mut scheduler = layout::from_bytes(state).filter(|scheduler| layout::to_bytes(scheduler) == state)?;
         match self.0 {
             Slip::LongerChecked => {
@@ -199,7 +209,12 @@ impl Wrong {
 
 impl Engine for Wrong {
     fn start(&mut self, state: &mut [u8], edition: u32) -> u32 {
-        self.start_call(state, edition)
+        let before = state.to_vec();
+        let number = self.start_call(state, edition);
+        if number == 0 && self.is(Slip::StartKeepsNotes) {
+            self.notes_written(&before, state);
+        }
+        number
     }
 
     fn open(&mut self, state: &mut [u8], weight: u32, answer: &mut [u8]) -> u32 {
@@ -250,15 +265,16 @@ impl Engine for Wrong {
     }
 
     fn ask(&mut self, state: &mut [u8], slot: u32, ticket: u32, answer: &mut [u8]) -> u32 {
-        self.around(state, answer, 16, |state, answer| {
-            on(state, answer, 16, |scheduler| {
+        self.around(state, answer, 20, |state, answer| {
+            on(state, answer, 20, |scheduler| {
                 let ticket = self.ticket(scheduler, slot, ticket);
-                if self.is(Slip::AskUnparked) {
-                    return Scheduler { mark: GOING, ..scheduler.clone() }.ask_sound(slot, ticket);
-                }
-                scheduler.ask_sound(slot, ticket)
+                self.ask_call(scheduler, slot, ticket)
             })
         })
+    }
+
+    fn fullest(&mut self, state: &mut [u8], answer: &mut [u8]) -> u32 {
+        self.around(state, answer, 44, |state, answer| on(state, answer, 44, |scheduler| self.fullest_call(scheduler)))
     }
 
     fn park(&mut self, state: &mut [u8], image: &mut [u8], answer: &mut [u8]) -> u32 {
@@ -266,7 +282,12 @@ impl Engine for Wrong {
     }
 
     fn unpark(&mut self, state: &mut [u8], image: &mut [u8]) -> u32 {
-        self.unpark_call(state, image)
+        let before = state.to_vec();
+        let number = self.unpark_call(state, image);
+        if number == 0 && !self.is(Slip::StartKeepsNotes) {
+            self.notes_written(&before, state);
+        }
+        number
     }
 
     fn lead(&mut self, w1: u32, v1: u32, w2: u32, v2: u32, answer: &mut [u8]) -> u32 {

@@ -51,4 +51,13 @@ pub struct Told {
     pub weight: u32,
     pub deficit: u32,
     pub waiting: u32,
+    /// The bytes that wait, without framing.
+    pub bytes: u32,
+}
+
+/// A channel in the list of the fullest: its slot, and the bytes that wait there, without framing.
+#[derive(Clone, Copy, Debug, PartialEq, Eq, Hash)]
+pub struct Filling {
+    pub slot: u32,
+    pub bytes: u32,
 }

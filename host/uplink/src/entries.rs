@@ -19,6 +19,7 @@ extern "C" {
     pub fn uplink_close(state: *mut u8, state_length: usize, slot: u32, ticket: u32, answer: *mut u8, answer_length: usize) -> u32;
     pub fn uplink_next(state: *mut u8, state_length: usize, answer: *mut u8, answer_length: usize) -> u32;
     pub fn uplink_ask(state: *const u8, state_length: usize, slot: u32, ticket: u32, answer: *mut u8, answer_length: usize) -> u32;
+    pub fn uplink_fullest(state: *const u8, state_length: usize, answer: *mut u8, answer_length: usize) -> u32;
     pub fn uplink_park(
         state: *mut u8,
         state_length: usize,

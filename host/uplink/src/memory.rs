@@ -4,9 +4,10 @@
 
 use std::fmt;
 
-use crate::answers::{Added, Closed, Opened, Sent, Standing, Told};
+use crate::answers::{Added, Closed, Filling, Opened, Sent, Standing, Told};
 use crate::entries::{
-    uplink_ask, uplink_close, uplink_lead, uplink_next, uplink_open, uplink_park, uplink_put, uplink_start, uplink_term, uplink_unpark,
+    uplink_ask, uplink_close, uplink_fullest, uplink_lead, uplink_next, uplink_open, uplink_park, uplink_put, uplink_start, uplink_term,
+    uplink_unpark,
 };
 use crate::refusal::Refusal;
 
@@ -26,10 +27,13 @@ pub struct Memory([u8; Memory::LENGTH]);
 /// Each call below lends an entry slices of its own, a memory and an answer that cannot overlap, with their true lengths.
 impl Memory {
     /// How many bytes it has.
-    pub const LENGTH: usize = 3_968;
+    pub const LENGTH: usize = 4_102;
 
     /// How many bytes the longest image has.
     pub const IMAGE_LENGTH: usize = 3_924;
+
+    /// How many channels are in the list of the fullest at the most.
+    pub const LISTED: usize = 5;
 
     /// The fresh state of an edition.
     pub fn new(edition: Edition) -> Memory {
@@ -105,11 +109,20 @@ impl Memory {
 
     /// What the state holds for a channel.
     pub fn ask(&self, slot: u32, ticket: u32) -> Result<Told, Refusal> {
-        let mut answer = [0; 16];
+        let mut answer = [0; 20];
         let number = unsafe { uplink_ask(self.0.as_ptr(), Memory::LENGTH, slot, ticket, answer.as_mut_ptr(), answer.len()) };
         let standing = if field(&answer, 0) == 2 { Standing::Closing } else { Standing::Open };
-        let told = Told { standing, weight: field(&answer, 1), deficit: field(&answer, 2), waiting: field(&answer, 3) };
+        let told =
+            Told { standing, weight: field(&answer, 1), deficit: field(&answer, 2), waiting: field(&answer, 3), bytes: field(&answer, 4) };
         accepted(number, told)
+    }
+
+    /// The fullest channels, [`Memory::LISTED`] at the most: most bytes first, the lower slot first where two have as many, and none without a record.
+    pub fn fullest(&self) -> Result<Vec<Filling>, Refusal> {
+        let mut answer = [0; 44];
+        let number = unsafe { uplink_fullest(self.0.as_ptr(), Memory::LENGTH, answer.as_mut_ptr(), answer.len()) };
+        let filling = |place: usize| Filling { slot: field(&answer, 1 + 2 * place), bytes: field(&answer, 2 + 2 * place) };
+        accepted(number, (0..Memory::LISTED).take(field(&answer, 0) as usize).map(filling).collect())
     }
 
     /// Parks the state: its image stands at the beginning of the buffer, whose other bytes stay, and its length is answered. No image is longer than

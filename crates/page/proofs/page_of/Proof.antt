@@ -6,7 +6,7 @@ use borrow.Author.Needs.{needs}
 use denote.Ref.{now}
 use Rattle.rules.specs.State.{weights}
 use Rattle.memory.specs.Reading.{stateOf}
-use Rattle.memory.proofs.OneMemory.{memory-sound}
+use Rattle.memory.proofs.OneMemory.{base-sound}
 use Rattle.visits.specs.Choice.{Chooses}
 use Rattle.visits.proofs.ChoiceInNumbers.{rows-of}
 use Rattle.uplink.proofs.SentState.{scan-loaded}
@@ -18,12 +18,12 @@ use Rattle.page.proofs.page_of.Statement.{statement}
 use Rattle.page.proofs.page_of.Tie as tie
 
 load-scan-requires : tie.Need-load-scan-requires
-load-scan-requires c κs = memory-sound _ (c .before .before .pre .0 .0) .size
+load-scan-requires c κs = base-sound _ (c .before .before .pre .0 .0) .size
 
 chooses : (c : tie.After-load-scan) → Chooses (now (c .before .before .before .args .state)) (c .load-scan .result)
 chooses c =
     let start = c .before .before .before in
-    let m = memory-sound (now (start .args .state)) (start .pre .0 .0) in
+    let m = base-sound (now (start .args .state)) (start .pre .0 .0) in
     record { memory = m; filled = start .pre .1; scan-is = scan-loaded m (c .load-scan .ensures) }
 
 choose-requires : tie.Need-choose-requires

@@ -1,6 +1,6 @@
 //! How long the exported calls take: `bench [--beside path/to/another/libdriver.a]`. Prints tables; docs/SPEED.md has the first, of edition 1, and its picture
 //! is drawn from there. The second is the same of edition 2, the third has single Nexts where edition 2 holds the order. The fourth has Next and Put of support's
-//! engine (include/plain.h) beside the adapter's, the last the two calls of parked queues beside a Next.
+//! engine (include/plain.h) beside the adapter's, the fifth the two calls of parked queues beside a Next, the last Ask and Fullest beside the check.
 //!
 //! All columns are measured in turn in the same run and are medians over many batches, so that their ratios mean something on any machine:
 //! - call: Next and Put in pairs, so that the fill stays the same, per call;
@@ -10,9 +10,9 @@
 //! - plain check: the memory checked record by record, straight on the bytes;
 //! - plain call: the independent scheduler's Next and Put with that check before each. It writes no bytes, which favours it.
 //!
-//! With another archive its call, next and check are measured between those of the linked one, and one more table has both and their ratios. One from
+//! With another archive its call, next, check and put are measured between those of the linked one, and one more table has both and their ratios. One from
 //! before document 02, §3, which knows no edition, is measured in edition 1. One from before §4 is lent the same records in planes of its own 1,024 cells; a
-//! fill of more than 16 a channel is not held by it.
+//! fill of more than 16 a channel is not held by it. One from before §7 is lent the memory without its notes.
 
 mod side;
 
@@ -40,9 +40,9 @@ const FILLS: [(u32, u32); 5] = [(0, 0), (4, 8), (16, 8), (64, 8), (8, 50)];
 /// Nanoseconds of three of the columns; none where there is nothing to send.
 type Three = [Option<f64>; 3];
 
-/// What is measured of one fill: call, next and check of each archive that holds it, and read, plain check and plain call.
+/// What is measured of one fill: call, next, check and put of each archive that holds it, and read, plain check and plain call.
 struct Line {
-    exported: Vec<Option<Three>>,
+    exported: Vec<Option<[Option<f64>; 4]>>,
     plain: Three,
 }
 
@@ -74,6 +74,7 @@ fn main() -> ExitCode {
     print!("\n{}", held());
     print!("\n{}", by_hand());
     print!("\n{}", parked());
+    print!("\n{}", asked());
     if archives.len() > 1 {
         println!("\nthe linked archive and the one beside it, and the linked one's time divided by the other's");
         for (edition, lines) in &of_editions {
@@ -116,12 +117,7 @@ fn measured(edition: u64, channels: u32, records: u32, archives: &[Archive]) -> 
             plain[2].push(batch(2, || plain_pair(&mut scheduler, &bytes)));
         }
     }
-    let times = |side: Option<Side>| {
-        side.map(|side| {
-            let [call, next, check, _] = side.times.map(median);
-            [call, next, check]
-        })
-    };
+    let times = |side: Option<Side>| side.map(|side| side.times.map(median));
     Line { exported: sides.into_iter().map(times).collect(), plain: plain.map(median) }
 }
 
@@ -255,6 +251,24 @@ fn parked() -> String {
     text
 }
 
+/// An Ask and a Fullest beside the check alone, which both begin with, of the same fill.
+fn asked() -> String {
+    let heads = ["channels x records", "check", "ask", "fullest", "ask / check", "fullest / check"];
+    let mut text = format!("| {} |\n{}|\n", heads.join(" | "), "|---".repeat(heads.len()));
+    for (edition, &(channels, records)) in EDITIONS.into_iter().flat_map(|edition| FILLS[1..].iter().map(move |fill| (edition, fill))) {
+        let bytes = layout::to_bytes(&filled(edition, channels, records));
+        let mut side = Side::lent(OWN, &bytes).expect("the linked archive takes a sound memory");
+        let mut times: [Vec<f64>; 3] = Default::default();
+        for _ in 0..BATCHES {
+            side.asking(channels - 1, 1).into_iter().zip(&mut times).for_each(|(time, times)| times.push(time));
+        }
+        let [check, ask, fullest] = times.map(median);
+        let cells = [shown(check, 0), shown(ask, 0), shown(fullest, 0), ratio(ask, check), ratio(fullest, check)];
+        let _ = writeln!(text, "| edition {edition}: {channels} x {records} | {} |", cells.join(" | "));
+    }
+    text
+}
+
 /// A row of a table for each fill. Those of edition 1 are named by their fill alone.
 fn rows(edition: u64, heads: &[&str], cells: impl Fn(&Line) -> Vec<String>, lines: &[Line]) -> String {
     let mut text = format!("| channels x records | {} |\n{}|\n", heads.join(" | "), "|---".repeat(heads.len() + 1));
@@ -266,14 +280,14 @@ fn rows(edition: u64, heads: &[&str], cells: impl Fn(&Line) -> Vec<String>, line
 }
 
 /// What is measured of the linked archive, which holds every fill.
-fn own(line: &Line) -> Three {
+fn own(line: &Line) -> [Option<f64>; 4] {
     line.exported[0].unwrap_or_default()
 }
 
 fn table(edition: u64, lines: &[Line]) -> String {
     let ratios = ["call / read", "next / read", "check / read", "check / plain check", "call / plain call"];
     let cells = |line: &Line| {
-        let times: Vec<Option<f64>> = own(line).into_iter().chain(line.plain).collect();
+        let times: Vec<Option<f64>> = own(line).into_iter().take(3).chain(line.plain).collect();
         let ratios = [(0, 3), (1, 3), (2, 3), (2, 4), (0, 5)].map(|(over, under)| ratio(times[over], times[under]));
         times.into_iter().map(|time| shown(time, 0)).chain(ratios).collect()
     };
@@ -282,7 +296,8 @@ fn table(edition: u64, lines: &[Line]) -> String {
 
 /// The linked archive and the other, column by column.
 fn beside(edition: u64, lines: &[Line]) -> String {
-    let heads = NAMES[..3].iter().flat_map(|name| [name.to_string(), format!("{name} beside"), "ratio".to_string()]).collect::<Vec<_>>();
+    let names = NAMES[..3].iter().chain(&["put"]);
+    let heads = names.flat_map(|name| [name.to_string(), format!("{name} beside"), "ratio".to_string()]).collect::<Vec<_>>();
     let cells = |line: &Line| {
         let Some(others) = line.exported[1] else {
             return own(line).into_iter().flat_map(|own| [shown(own, 0), "not held".to_string(), shown(None, 2)]).collect();

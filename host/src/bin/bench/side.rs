@@ -6,23 +6,27 @@ use std::time::Instant;
 use host::answers::{Fields, Sent};
 use host::engine::Engine;
 use host::image::LONGEST_IMAGE;
-use host::layout::{CELLS, EDITION, LENGTH, LENGTHS, MARK};
+use host::layout::{BYTES, CELLS, EDITION, LENGTH, LENGTHS, MARK};
 use host::linked::{Entries, LINKED, PLAIN};
 use host::model::answer_fields;
 
 use super::{batch, TIMES};
 
-/// The entries of an archive and the length of the memory that they take.
+/// The entries of an archive, the length of the memory that they take, and that of Ask's answer.
 #[derive(Clone, Copy)]
 pub struct Archive {
     entries: Entries,
     length: usize,
+    asked: usize,
 }
 
 /// The linked one.
-pub const OWN: Archive = Archive { entries: LINKED, length: LENGTH };
+pub const OWN: Archive = Archive { entries: LINKED, length: LENGTH, asked: ASKED };
 /// The same with Put and Next of support's engine.
-pub const SUPPORT: Archive = Archive { entries: PLAIN, length: LENGTH };
+pub const SUPPORT: Archive = Archive { entries: PLAIN, length: LENGTH, asked: ASKED };
+/// The bytes of Ask's answer, and before document 02, §7.
+const ASKED: usize = 20;
+const ASKED_BEFORE: usize = 16;
 /// Another archive's memory is looked for up to this length.
 const LONGEST_MEMORY: usize = 16_384;
 
@@ -30,12 +34,18 @@ impl Archive {
     /// Another archive: its Start takes one length alone.
     pub fn of(mut entries: Entries) -> Option<Archive> {
         let length = (LENGTHS.start..=LONGEST_MEMORY).find(|&length| entries.start(&mut vec![0; length], 1) == 0)?;
-        Some(Archive { entries, length })
+        let mut fresh = vec![0; length];
+        entries.start(&mut fresh, 1);
+        let asked = [ASKED, ASKED_BEFORE].into_iter().find(|&asked| entries.ask(&mut fresh, 64, 1, &mut [0; ASKED][..asked]) == 1)?;
+        Some(Archive { entries, length, asked })
     }
 
-    /// The same state in planes of this archive's cells.
+    /// The same state in planes of this archive's cells. One with another number of them is from before the notes.
     fn memory(&self, bytes: &[u8]) -> Vec<u8> {
-        let (heads, planes) = bytes.split_at(LENGTHS.start);
+        if self.length == bytes.len() {
+            return bytes.to_vec();
+        }
+        let (heads, planes) = bytes[..BYTES.start].split_at(LENGTHS.start);
         let cells = CELLS * (self.length - heads.len()) / planes.len();
         let plane = |plane: &[u8]| plane.iter().copied().chain(std::iter::repeat(0)).take(cells).collect();
         [heads.to_vec()].into_iter().chain(planes.chunks(CELLS).map(plane)).flatten().collect()
@@ -43,12 +53,13 @@ impl Archive {
 
     /// Whether it takes a memory for sound: it then refuses slot 64 for itself.
     fn takes(mut self, memory: &mut [u8]) -> bool {
-        self.entries.ask(memory, 64, 1, &mut [0; 16]) == 1
+        self.entries.ask(memory, 64, 1, &mut [0; ASKED][..self.asked]) == 1
     }
 }
 
 pub struct Side {
     entries: Entries,
+    asked: usize,
     /// The memory that is sent from and put into, and one that only a refused call is lent.
     pub memory: Vec<u8>,
     lent: Vec<u8>,
@@ -63,8 +74,8 @@ impl Side {
         if !archive.takes(&mut memory) && memory[EDITION.start] == 1 {
             memory[EDITION.start] = 0;
         }
-        let entries = archive.entries;
-        archive.takes(&mut memory).then(|| Side { entries, lent: memory.clone(), memory, times: Default::default() })
+        let Archive { entries, asked, .. } = archive;
+        archive.takes(&mut memory).then(|| Side { entries, asked, lent: memory.clone(), memory, times: Default::default() })
     }
 
     pub fn measure(&mut self, sends: bool) {
@@ -123,8 +134,18 @@ impl Side {
         [park, unpark]
     }
 
+    /// Nanoseconds of a refused call, of an Ask of this channel, and of a Fullest.
+    pub fn asking(&mut self, slot: u32, ticket: u32) -> [f64; 3] {
+        let (mut told, mut list) = ([0; ASKED], [0; 44]);
+        let check = batch(1, || self.refused());
+        let ask = batch(1, || assert_eq!(black_box(self.entries.ask(&mut self.lent, slot, ticket, &mut told)), 0));
+        let fullest = batch(1, || assert_eq!(black_box(self.entries.fullest(&mut self.lent, &mut list)), 0));
+        black_box((told, list));
+        [check, ask, fullest]
+    }
+
     fn refused(&mut self) {
-        let mut answer = [0; 16];
-        assert_eq!(black_box(self.entries.ask(&mut self.lent, 64, 1, &mut answer)), 1);
+        let mut answer = [0; ASKED];
+        assert_eq!(black_box(self.entries.ask(&mut self.lent, 64, 1, &mut answer[..self.asked])), 1);
     }
 }

@@ -4,7 +4,7 @@ use native.Mathlib.Omega.{arith}
 use borrow.Author.Needs.{needs}
 use denote.Ref.{now}
 use lib.ListN.{length}
-use Rattle.memory.specs.Layout.{memoryLength}
+use Rattle.memory.specs.Layout.{baseLength}
 use Rattle.image.proofs.StateDecode.{edition-stored}
 use Rattle.image.proofs.decode.store_edition.Statement.{statement}
 use Rattle.image.proofs.decode.store_edition.Tie as tie
@@ -15,7 +15,7 @@ low-u8-requires c κs = search needs
 slice-write-memory : tie.Need-slice-write-memory
 slice-write-memory c =
     let start = c .before .before in
-    let size : length (now (start .args .memory)) ≡ memoryLength = ap length (start .pre) in
+    let size : length (now (start .args .memory)) ≡ baseLength = ap length (start .pre) in
     omega arith
 
 same-length : tie.Need-same-length

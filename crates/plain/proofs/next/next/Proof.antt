@@ -3,7 +3,7 @@ use borrow.Author.Needs.{needs}
 use denote.Ref.{now}
 use Rattle.rules.specs.Next.{nextCall}
 use Rattle.rules.proofs.Parking.{parked-next}
-use Rattle.uplink.proofs.Lending.{checked-size, takes-calls, unsound-left, parked-left, sound-left}
+use Rattle.uplink.proofs.Lending.{checked-long, takes-calls, unsound-left, parked-left, sound-left}
 use Rattle.plain.proofs.next.next.Statement.{statement}
 use Rattle.plain.proofs.next.next.Tie as tie
 
@@ -21,7 +21,7 @@ returns c =
 is-parked-requires : tie.Need-is-parked-requires
 is-parked-requires c κs =
     let k = c .before in
-    checked-size (now (k .before .before .before .before .args .state)) (k .before .check .result) (k .before .check .ensures) (k .if1 .left)
+    checked-long (now (k .before .before .before .before .args .state)) (k .before .check .result) (k .before .check .ensures) (k .if1 .left)
 
 same-length-2 : tie.Need-same-length-2
 same-length-2 c = search needs
@@ -33,8 +33,8 @@ returns-2 c =
     parked-left (now (a .state)) (k .before .check .result) (k .before .check .ensures) nextCall (c .before .is-parked .ensures)
     parked-next (k .if1 .left) (c .if2 .taken)
 
-next-in-requires : tie.Need-next-in-requires
-next-in-requires c κs =
+next-noted-requires : tie.Need-next-noted-requires
+next-noted-requires c κs =
     let j = c .before in
     let k = j .before .before .before in
     takes-calls (now (k .before .before .before .before .args .state)) (k .before .check .result) (k .before .check .ensures) (j .before .is-parked .ensures) (k .if1 .left) (j .if2 .left)
@@ -46,7 +46,7 @@ returns-3 : tie.Need-returns-3
 returns-3 c =
     let k = c .before .before .before .before .before .before .before in
     let a = k .before .before .before .before .args in
-    sound-left (now (a .state)) (k .before .check .result) (k .before .check .ensures) nextCall (k .if1 .left) (c .before .before .next-in .ensures)
+    sound-left (now (a .state)) (k .before .check .result) (k .before .check .ensures) nextCall (k .if1 .left) (c .before .before .next-noted .ensures)
 
 pub next-spec : {M : Type 1} → statement M
 next-spec =
@@ -58,6 +58,6 @@ next-spec =
     is-parked-requires
     same-length-2
     returns-2
-    next-in-requires
+    next-noted-requires
     same-length-3
     returns-3)

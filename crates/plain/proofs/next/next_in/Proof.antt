@@ -2,14 +2,14 @@
 use mathlib.Core.Path.{sym, ap, _∙_}
 use borrow.Author.Needs.{needs}
 use denote.Ref.{now}
-use Rattle.memory.specs.Memory.{replied}
-use Rattle.memory.proofs.OneMemory.{memory-sound}
+use Rattle.memory.specs.Memory.{repliedBase}
+use Rattle.memory.proofs.OneMemory.{base-sound}
 use Rattle.uplink.proofs.SentState.{sent-ordered, no-rows, chooses, chose}
 use Rattle.plain.proofs.next.next_in.Statement.{statement}
 use Rattle.plain.proofs.next.next_in.Tie as tie
 
 row-count-requires : tie.Need-row-count-requires
-row-count-requires c κs = memory-sound _ (c .before .before .pre .0) .size
+row-count-requires c κs = base-sound _ (c .before .before .pre .0) .size
 
 same-length : tie.Need-same-length
 same-length c = search needs
@@ -18,10 +18,10 @@ returns : tie.Need-returns
 returns c =
     let s = c .before .before .before .before in
     let b = now (s .args .state) in
-    ap (replied b) (sym (no-rows b (s .pre .1) (sym (c .before .row-count .ensures .0) ∙ c .if1 .taken)))
+    ap (repliedBase b) (sym (no-rows b (s .pre .1) (sym (c .before .row-count .ensures .0) ∙ c .if1 .taken)))
 
 load-scan-requires : tie.Need-load-scan-requires
-load-scan-requires c κs = memory-sound _ (c .before .before .before .before .before .pre .0) .size
+load-scan-requires c κs = base-sound _ (c .before .before .before .before .before .pre .0) .size
 
 choose-requires : tie.Need-choose-requires
 choose-requires c κs = chooses _ (c .before .before .before .before .before .before .before .pre .0) (c .before .before .before .before .row-count .ensures .0) (c .before .before .before .if1 .left) (c .before .load-scan .ensures)

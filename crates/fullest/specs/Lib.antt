@@ -1,0 +1,4 @@
+pub mod Listing
+pub mod Keys
+pub mod Moved
+pub mod Noted
