@@ -22,6 +22,7 @@ refusalOf answer.noShared = refusal.NoShared
 refusalOf answer.parked = refusal.Parked
 refusalOf answer.badImage = refusal.BadImage
 refusalOf answer.shortBuffer = refusal.ShortBuffer
+refusalOf answer.tooMany = refusal.TooMany
 
 back : (r : Refusal) → refusalOf (refusalTold r) ≡ r
 unfolding refusalOf
@@ -40,6 +41,7 @@ back refusal.NoShared = refl
 back refusal.Parked = refl
 back refusal.BadImage = refl
 back refusal.ShortBuffer = refl
+back refusal.TooMany = refl
 
 pub refusal-told-once : (p q : Refusal) → refusalTold p ≡ refusalTold q → p ≡ q
 refusal-told-once p q e = sym (back p) ∙ ap refusalOf e ∙ back q

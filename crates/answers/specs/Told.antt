@@ -19,3 +19,4 @@ refusalTold refusal.NoShared = answer.noShared
 refusalTold refusal.Parked = answer.parked
 refusalTold refusal.BadImage = answer.badImage
 refusalTold refusal.ShortBuffer = answer.shortBuffer
+refusalTold refusal.TooMany = answer.tooMany

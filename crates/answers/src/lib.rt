@@ -23,6 +23,7 @@ pub enum Refusal {
     Parked,
     BadImage,
     ShortBuffer,
+    TooMany,
 }
 
 // The number of a refusal, by document 01's table. (9 is not used: 02 §8.)
@@ -45,5 +46,6 @@ pub fn number_of(why: Refusal) -> u32
         Refusal::Parked => 14,
         Refusal::BadImage => 15,
         Refusal::ShortBuffer => 16,
+        Refusal::TooMany => 17,
     }
 }
