@@ -1,0 +1,4 @@
+pub mod Matching
+pub mod LinesLaws
+pub mod WeightLaws
+pub mod Checking

@@ -1,0 +1,4 @@
+pub mod Sheet
+pub mod Matching
+pub mod Lines
+pub mod Told
