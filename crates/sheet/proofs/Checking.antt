@@ -1,18 +1,15 @@
--- The call as a whole: its two refusals, and what the walk along the round makes of the list. A place named is one of the round's, or the one behind it.
+-- The call as a whole: its two refusals, and what the walk along the round makes of the list.
 use Prim.Native.Nat.{ℕ, _≤_, _<_}
 use mathlib.Core.Path.{_≡_, refl, ap}
 use mathlib.Core.Bool.{true, false}
 use mathlib.Core.List.{List}
-use native.Mathlib.Omega.{arith}
 use lib.ListN.{length}
 use borrow.Author.Tests.{lt-ltb, le-ltb, eq-eqb, ne-eqb}
 use Rattle.answers.specs.Answer.{tooMany, badWeight, refused, given}
 use Rattle.spread.specs.Round.{roundOf}
-use Rattle.spread.proofs.RoundLaws.{round-length}
 use Rattle.sheet.specs.Sheet.{right, wrongAt, rowsMost, anyBad, sheetCall}
 use Rattle.sheet.specs.Matching.{Match, on, wrong, matched}
-use Rattle.sheet.proofs.Matching.{reached, reached-within, finish, matched-sheet}
-use Rattle.sheet.proofs.WeightLaws.{visits-most}
+use Rattle.sheet.proofs.Matching.{finish, matched-sheet}
 
 module _ (ws rows : List ℕ) where
   pub says-too-many : rowsMost < length ws → refused tooMany ≡ sheetCall ws rows
@@ -36,6 +33,3 @@ module _ (ws rows : List ℕ) where
 
     pub says-longer : (p : ℕ) → on p ≡ matched rows 0 (roundOf ws) → (p ≡ length rows → ⊥) → given (wrongAt p) ≡ sheetCall ws rows
     says-longer p e n = rw (ne-eqb p (length rows) n) at (says (on p) e)
-
-    pub place-small : (m : Match) → m ≡ matched rows 0 (roundOf ws) → reached m ≤ 262080
-    place-small m e = rw e (omega (arith, reached-within rows (roundOf ws) 0, round-length ws, visits-most ws h b))

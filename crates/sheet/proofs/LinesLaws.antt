@@ -4,6 +4,7 @@ use Prim.Native.Nat.{ℕ, zero, suc, _+_, _-_, _*_, _^_, _≤_, _<_}
 use mathlib.Core.Path.{_≡_, refl, sym, ap, _∙_}
 use mathlib.Core.Logic.{_⊎_, inl, inr}
 use mathlib.Core.List.{List, [], _∷_, _++_, append-assoc, append-nil}
+use native.Mathlib.Numerals.{add-one}
 use native.Mathlib.Omega.{arith}
 use lib.Dec.{eqb}
 use lib.Pow.{pow-pos}
@@ -18,7 +19,7 @@ use Rattle.spread.specs.Visits.{columnAt}
 use Rattle.spread.specs.Round.{orderAll, rowsWith, visitsFrom, roundOf}
 use Rattle.spread.proofs.Rule.{term-le}
 use Rattle.sheet.specs.Sheet.{rowsMost}
-use Rattle.sheet.specs.Matching.{on, wrong, matched}
+use Rattle.sheet.specs.Matching.{Match, on, wrong, matched}
 use Rattle.sheet.specs.Lines.{lineOf, linesFrom, Laid, LaidOne}
 use Rattle.sheet.proofs.Matching.{found-append, wrong-append}
 
@@ -105,10 +106,12 @@ lines-visits ws lines counts k p (suc n) laid h =
     let later = lines-visits ws lines counts k (suc p) n laid (omega arith) in
     rw (here, later) refl
 
--- the lines along a round are its visits
-pub lines-round : (ws lines counts : List ℕ) (k : ℕ) → k ≡ orderAll ws → Laid ws lines counts k → linesFrom lines counts k 0 (2 ^ k - 1) ≡ roundOf ws
+-- the lines along a round are its visits, so what is held against the ones is held against the others
+pub held-round : (ws rows lines counts : List ℕ) (k : ℕ) {h : Match} → k ≡ orderAll ws → Laid ws lines counts k
+    → h ≡ matched rows 0 (linesFrom lines counts k 0 (2 ^ k - 1)) → h ≡ matched rows 0 (roundOf ws)
 unfolding roundOf
-lines-round ws lines counts k e laid = lines-visits ws lines counts k 0 (2 ^ k - 1) laid (omega (arith, pow-pos k)) ∙ rw e refl
+held-round ws rows lines counts k e laid held =
+    held ∙ ap (matched rows 0) (lines-visits ws lines counts k 0 (2 ^ k - 1) laid (omega (arith, pow-pos k)) ∙ rw e refl)
 
 -- ---- held against a list
 
@@ -120,15 +123,19 @@ line-part lines counts c =
     rw e refl
 
 module _ (rows lines counts : List ℕ) (k p n at : ℕ) where
-  pub column-goes : (next : ℕ) → on next ≡ matched rows at (lineOf lines counts (columnAt k (suc p)))
-      → matched rows at (linesFrom lines counts k p (suc n)) ≡ matched rows next (linesFrom lines counts k (suc p) n)
+  -- the line of the next position's column stands there, or the list is wrong in it
+  pub column-goes : (c next : ℕ) {h : Match} → c ≡ columnAt k (p + 1) → h ≡ on next → h ≡ matched rows at (lineOf lines counts c)
+      → matched rows at (linesFrom lines counts k p (suc n)) ≡ matched rows next (linesFrom lines counts k (p + 1) n)
   unfolding linesFrom
-  column-goes next e = found-append rows (lineOf lines counts (columnAt k (suc p))) (linesFrom lines counts k (suc p) n) at next e
+  column-goes c next z told e =
+      rw (add-one p)
+      (found-append rows (lineOf lines counts (columnAt k (suc p))) (linesFrom lines counts k (suc p) n) at next (rw (told, z, add-one p) at e))
 
-  pub column-stops : (q : ℕ) → wrong q ≡ matched rows at (lineOf lines counts (columnAt k (suc p)))
+  pub column-stops : (c q : ℕ) {h : Match} → c ≡ columnAt k (p + 1) → h ≡ wrong q → h ≡ matched rows at (lineOf lines counts c)
       → matched rows at (linesFrom lines counts k p (suc n)) ≡ wrong q
   unfolding linesFrom
-  column-stops q e = wrong-append rows (lineOf lines counts (columnAt k (suc p))) (linesFrom lines counts k (suc p) n) at q e
+  column-stops c q z told e =
+      wrong-append rows (lineOf lines counts (columnAt k (suc p))) (linesFrom lines counts k (suc p) n) at q (rw (told, z, add-one p) at e)
 
 pub round-end : (rows lines counts : List ℕ) (k p n at : ℕ) → n ≡ 0 → matched rows at (linesFrom lines counts k p n) ≡ on at
 unfolding linesFrom matched

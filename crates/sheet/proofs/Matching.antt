@@ -1,4 +1,4 @@
--- Holding a list against wanted rows goes part by part, never comes past the rows wanted, and from the first place on gives what the sheet says.
+-- Holding a list against wanted rows goes part by part, and from the first place on gives what the sheet says.
 use Prim.Native.Nat.{ℕ, suc, _+_, _≤_, _<_}
 use mathlib.Core.Path.{_≡_, refl, _∙_}
 use mathlib.Core.Bool.{Bool, true, false, cond}
@@ -57,22 +57,6 @@ unfolding matched
 places-end rows line at i l = rw (drop-of-length-le line {i = i} l) refl
 
 -- ---- the whole list
-
--- the place that a match has come to
-abbrev pub reached : Match → ℕ
-reached (on q) = q
-reached (wrong q) = q
-
-pub reached-within : (rows want : List ℕ) (p : ℕ) → reached (matched rows p want) ≤ p + length want
-unfolding matched
-reached-within rows [] p = omega arith
-reached-within rows (v ∷ vs) p = go (ltb p (length rows)) (eqb (getD rows p 0) v) (reached-within rows vs (suc p))
-  where
-    go : (a b : Bool) → reached (matched rows (suc p) vs) ≤ suc p + length vs
-        → reached (cond a (cond b (matched rows (suc p) vs) (wrong p)) (wrong p)) ≤ p + suc (length vs)
-    go true true h = omega arith
-    go true false h = omega arith
-    go false b h = omega arith
 
 -- what a match makes of the sheet: all wanted was found, and the list ends there or goes on
 abbrev pub finish : ℕ → Match → Sheet

@@ -1,9 +1,10 @@
 -- Round sheets (02 §9): what the checker says of a list of row numbers.
 use Prim.Native.Nat.{ℕ, suc}
+use mathlib.Core.Path.{_≡_}
 use mathlib.Core.Bool.{Bool, false, cond, _||_}
 use mathlib.Core.List.{List, [], _∷_}
 use lib.Dec.{eqb, ltb}
-use lib.ListN.{length}
+use lib.ListN.{length, take}
 use Rattle.answers.specs.Answer.{tooMany, badWeight, Answer, given, _gives_, checked}
 use Rattle.spread.specs.Limits.{outside}
 use Rattle.spread.specs.Round.{roundOf}
@@ -32,6 +33,11 @@ sheetFrom p (r ∷ rs) (v ∷ vs) = let later = sheetFrom (suc p) rs vs in cond 
 -- "it accepts exactly if the list is the visits [..]. Otherwise it names the first wrong place", "places counted from 0"
 unfoldable pub sheetOf : List ℕ → List ℕ → Sheet
 sheetOf rows visits = sheetFrom 0 rows visits
+
+-- What "the first wrong place" is: the list and the visits agree up to before it, and no further.
+pub record FirstWrong (n : ℕ) (rows visits : List ℕ) : Type 0 where
+  pub agree : take n rows ≡ take n visits
+  pub differ : take (suc n) rows ≡ take (suc n) visits → ⊥
 
 -- whether a weight is out of range
 unfoldable pub anyBad : List ℕ → Bool

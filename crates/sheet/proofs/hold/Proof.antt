@@ -64,9 +64,9 @@ loop-again c =
     let l = turn .loop in (
       omega arith,
       rw (add-one (l .at), add-one (l .i))
-      (l .inv .1
-      ∙ place-found (now (a .rows)) (now (a .line)) (l .at) (l .i) (c .before .before .before .before .before .loop-test .taken)
-      (c .before .before .before .before .if1 .left) (c .if2 .left ∙ c .before .wide .ensures)),
+          (l .inv .1
+          ∙ place-found (now (a .rows)) (now (a .line)) (l .at) (l .i) (c .before .before .before .before .before .loop-test .taken)
+          (c .before .before .before .before .if1 .left) (c .if2 .left ∙ c .before .wide .ensures)),
     )
 
 returns-3 : tie.Need-returns-3 Inv-loop μ-loop

@@ -50,7 +50,7 @@ in-column-requires : tie.Need-in-column-requires Inv-loop μ-loop
 in-column-requires c κs = search needs
 
 add-n : tie.Need-add-n Inv-loop μ-loop
-add-n c = 
+add-n c =
     let a = c .before .before .before .before .before .before .args in
     omega (arith, c .in-column .ensures, bit-lt (a .column) (getD (now (a .weights)) (c .before .before .before .loop .r) 0))
 
@@ -71,7 +71,7 @@ loop-again c =
       omega (arith, length-set (l .lines) (64 * a .column + l .n) (l .r), l .inv .3),
       take-set-le (64 * a .column) (l .lines) (64 * a .column + l .n) (l .r) (omega arith) ∙ l .inv .4,
       rw (add-one (l .r), c .in-column .ensures)
-      (lines-turn (a .column) (l .r) (l .n) (64 * a .column) (now (a .weights)) (l .lines) (c .before .before .loop-test .taken) (omega arith) (l .inv .5)),
+          (lines-turn (a .column) (l .r) (l .n) (64 * a .column) (now (a .weights)) (l .lines) (c .before .before .loop-test .taken) (omega arith) (l .inv .5)),
     )
 
 same-length : tie.Need-same-length Inv-loop μ-loop
@@ -84,7 +84,7 @@ returns c =
     record {
       few = omega arith;
       column = lines-end (a .column) (l .r) (l .n) (64 * a .column) (now (a .weights)) (l .lines) (c .loop-test .left) (l .inv .5);
-      kept = l .inv .4
+      kept = l .inv .4;
     }
 
 pub lay-one-spec : {M : Type 1} → statement M

@@ -40,7 +40,7 @@ loop-again c =
     let turn = c .before .before .loop in (
       omega arith,
       rw (add-one (turn .r))
-      (omega (arith, turn .inv .1, order-or (turn .union) (getD ws (turn .r) 0), order-next ws (turn .r) (c .before .loop-test .taken))),
+          (omega (arith, turn .inv .1, order-or (turn .union) (getD ws (turn .r) 0), order-next ws (turn .r) (c .before .loop-test .taken))),
     )
 
 order-of-requires : tie.Need-order-of-requires Inv-loop μ-loop

@@ -1,9 +1,7 @@
 -- The lines that were laid are the columns, so what they give along the round is the round.
-use mathlib.Core.Path.{ap, _∙_}
 use borrow.Author.Needs.{needs}
 use denote.Ref.{now}
-use Rattle.sheet.specs.Matching.{matched}
-use Rattle.sheet.proofs.LinesLaws.{lines-round}
+use Rattle.sheet.proofs.LinesLaws.{held-round}
 use Rattle.sheet.proofs.round.Statement.{statement}
 use Rattle.sheet.proofs.round.Tie as tie
 
@@ -33,10 +31,9 @@ walk-requires c κs = search needs
 
 returns : tie.Need-returns
 returns c =
-    let s = c .before .before .before .before .before .before .before .before .before .before .before in
+    let a = c .before .before .before .before .before .before .before .before .before .before .before .args in
     let order = c .before .before .before .before .before .before .before .before .order-all in
-    c .walk .ensures
-    ∙ ap (matched (now (s .args .rows)) 0) (lines-round (now (s .args .weights)) _ _ (order .result) (order .ensures) (c .before .before .before .before .before .lay .ensures))
+    held-round (now (a .weights)) (now (a .rows)) _ _ (order .result) (order .ensures) (c .before .before .before .before .before .lay .ensures) (c .walk .ensures)
 
 pub round-spec : {M : Type 1} → statement M
 round-spec =

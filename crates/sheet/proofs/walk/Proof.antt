@@ -1,7 +1,6 @@
 -- What is still wanted, from the position and the place reached, gives what was wanted at first.
-use Prim.Native.Nat.{ℕ, suc, _-_, _*_, _%_, _^_, _≤_}
+use Prim.Native.Nat.{ℕ, suc, _+_, _-_, _*_, _%_, _^_, _≤_, _<_}
 use mathlib.Core.Path.{_≡_, refl, sym, ap, _∙_}
-use native.Mathlib.Numerals.{add-one}
 use native.Mathlib.Omega.{arith}
 use borrow.Author.Needs.{needs}
 use denote.Ref.{now}
@@ -61,32 +60,38 @@ enum-known-held c = search needs
 enum-told : tie.Need-enum-told Inv-loop μ-loop
 enum-told c = search needs
 
+-- the positions that are left
+left-after : (n p : ℕ) → p < n → n - p ≡ suc (n - (p + 1))
+left-after n p h = omega arith
+
 returns : tie.Need-returns Inv-loop μ-loop
 returns c =
-    let s = c .before .before .before .before .before .before .before .before .before in
-    let a = s .args in
+    let a = c .before .before .before .before .before .before .before .before .before .args in
     let l = c .before .before .before .before .before .loop in
     let told = ap heldTold (c .enum-told .given .1) in
-    let e : 2 ^ a .k - 1 - l .p ≡ suc (2 ^ a .k - 1 - suc (l .p)) = omega (arith, l .inv .0, c .before .before .before .before .loop-test .taken) in
-    let found = rw (c .before .before .before .column-at .ensures .0, add-one (l .p)) at (sym told ∙ c .before .before .scan .ensures) in
-    told ∙ sym (l .inv .2 ∙ rw e (column-stops (now (a .rows)) (now (a .lines)) (now (a .counts)) (a .k) (l .p) (2 ^ a .k - 1 - suc (l .p)) (l .at) _ found))
+    let left = left-after (2 ^ a .k - 1) (l .p) (omega (arith, l .inv .0, c .before .before .before .before .loop-test .taken)) in
+    told
+    ∙ sym
+    (l .inv .2
+    ∙ rw left
+    (column-stops (now (a .rows)) (now (a .lines)) (now (a .counts)) (a .k) (l .p) _ (l .at) _ _ (c .before .before .before .column-at .ensures .0)
+    told (c .before .before .scan .ensures)))
 
 loop-less : tie.Need-loop-less Inv-loop μ-loop
 loop-less c = search needs
 
 loop-again : tie.Need-loop-again Inv-loop μ-loop
 loop-again c =
-    let s = c .before .before .before .before .before .before .before .before .before .before in
-    let a = s .args in
+    let a = c .before .before .before .before .before .before .before .before .before .before .args in
     let l = c .before .before .before .before .before .before .loop in
     let told = ap heldTold (c .before .held .given .1) in
-    let e : 2 ^ a .k - 1 - l .p ≡ suc (2 ^ a .k - 1 - suc (l .p)) = omega (arith, l .inv .0, c .before .before .before .before .before .loop-test .taken) in
-    let found = rw (c .before .before .before .before .column-at .ensures .0, add-one (l .p)) at (sym told ∙ c .before .before .before .scan .ensures) in (
+    let left = left-after (2 ^ a .k - 1) (l .p) (omega (arith, l .inv .0, c .before .before .before .before .before .loop-test .taken)) in (
       l .inv .0,
       omega arith,
-      rw (add-one (l .p))
-      (l .inv .2
-      ∙ rw e (column-goes (now (a .rows)) (now (a .lines)) (now (a .counts)) (a .k) (l .p) (2 ^ a .k - 1 - suc (l .p)) (l .at) _ found)),
+      l .inv .2
+          ∙ rw left
+          (column-goes (now (a .rows)) (now (a .lines)) (now (a .counts)) (a .k) (l .p) _ (l .at) _ _ (c .before .before .before .before .column-at .ensures .0)
+          told (c .before .before .before .scan .ensures)),
     )
 
 returns-2 : tie.Need-returns-2 Inv-loop μ-loop
