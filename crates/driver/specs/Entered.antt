@@ -12,6 +12,7 @@ use Rattle.rules.specs.Listed.{openedFields, takenFields, closedFields, sentFie
 use Rattle.memory.specs.Memory.{Left}
 use Rattle.uplink.specs.Told.{panel, leaving}
 use Rattle.image.specs.Parked.{Parked}
+use Rattle.sheet.specs.Sheet.{Sheet, sheetFields}
 use Rattle.driver.specs.Words.{lowFirst, words, twos}
 
 -- what the caller has in hand after a call; a call that is lent no state, or no answer buffer, has [] there
@@ -83,3 +84,6 @@ termBytes t = words (t ∷ [])
 
 abbrev pub leadBytes : ℤ → List ℕ
 leadBytes z = lowFirst 8 (twos z)
+
+abbrev pub sheetBytes : Sheet → List ℕ
+sheetBytes s = words (sheetFields s)

@@ -13,6 +13,7 @@ use image::UnparkAnswer;
 use octets::low_first::write_u64;
 use records::sent;
 use records::taken;
+use sheet::SheetAnswer;
 use spread::LeadAnswer;
 use spread::TermAnswer;
 use uplink::AskAnswer;
@@ -27,7 +28,8 @@ ghost use Rattle.rules.specs.Calls.{openCall, putCall, closeCall, askCall, full
 ghost use Rattle.rules.specs.Next.{nextCall};
 ghost use Rattle.memory.specs.Memory.{on, startOn};
 ghost use Rattle.image.specs.Parked.{parkOn, readOn};
-ghost use Rattle.driver.specs.Entered.{entry, entered, parkEntry, parkEntered, stateless, startBytes, openBytes, putBytes, closeBytes, nextBytes, askBytes, fullestBytes, termBytes, leadBytes};
+ghost use Rattle.sheet.specs.Sheet.{sheetCall};
+ghost use Rattle.driver.specs.Entered.{entry, entered, parkEntry, parkEntered, stateless, startBytes, openBytes, putBytes, closeBytes, nextBytes, askBytes, fullestBytes, termBytes, leadBytes, sheetBytes};
 
 pub mod fields; // fields.rt: numbers and fields
 pub mod records; // records.rt: what Put and Next answer
@@ -226,5 +228,26 @@ pub extern "C" fn uplink_lead(w1: u32, v1: u32, w2: u32, v2: u32, answer: &mut [
             0
         }
         LeadAnswer::Refused(why) => refuse(answer, why),
+    }
+}
+
+// Whether a list of row numbers is the visits of one round of rows with these weights. Answer: 1 if accepted else 0, the first wrong place (0 if accepted).
+#[no_mangle]
+pub extern "C" fn uplink_sheet(weights: &[u32], rows: &[u32], answer: &mut [u8]) -> u32
+    ensures { λ r. ⌜ entry r [] (now (answer .exit)) ≡ entered 8 sheetBytes (stateless (sheetCall (now (weights .entry)) (now (rows .entry)))) [] (now (answer .entry)) ⌝ }
+{
+    if answer.len() != 8 {
+        return wrong_length();
+    }
+    match sheet::check(weights, rows) {
+        SheetAnswer::Right => {
+            let fields = [1, 0];
+            give(answer, &fields)
+        }
+        SheetAnswer::WrongAt(place) => {
+            let fields = [0, place];
+            give(answer, &fields)
+        }
+        SheetAnswer::Refused(why) => refuse(answer, why),
     }
 }
