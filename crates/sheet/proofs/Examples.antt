@@ -11,6 +11,11 @@ use Rattle.spread.specs.Visits.{columnAt}
 use Rattle.spread.specs.Round.{orderAll, rowsWith, visitsFrom, roundOf}
 use Rattle.sheet.specs.Sheet.{right, wrongAt, sheetFrom, sheetOf, anyBad, sheetCall}
 
+-- document 01, case 5: weights 1, 4, 8, 3, "joined so"
+case-five : sheetCall (1 ∷ 4 ∷ 8 ∷ 3 ∷ []) (2 ∷ 1 ∷ 2 ∷ 3 ∷ 2 ∷ 1 ∷ 2 ∷ 0 ∷ 3 ∷ 2 ∷ 1 ∷ 2 ∷ 3 ∷ 2 ∷ 1 ∷ 2 ∷ []) ≡ given right
+unfolding bit order orderIn trailing trailingIn term columnAt orderAll rowsWith visitsFrom roundOf sheetFrom sheetOf anyBad sheetCall
+case-five = refl
+
 -- "No rows and an empty list is accepted." Any row is then one too many.
 no-rows : (sheetCall [] [] ≡ given right) × (sheetCall [] (0 ∷ []) ≡ given (wrongAt 0))
 unfolding bit order orderIn trailing trailingIn term columnAt orderAll rowsWith visitsFrom roundOf sheetFrom sheetOf anyBad sheetCall

@@ -1,6 +1,6 @@
 -- The weights one by one: none of those passed is bad, and the union so far has with the rest the order of all. Weights in range have at most 12 columns
 -- and, if they are no more than 64, at most 262,080 visits.
-use Prim.Native.Nat.{ℕ, suc, _+_, _*_, _^_, _≤_, _<_, max}
+use Prim.Native.Nat.{ℕ, suc, _*_, _^_, _≤_, _<_, max}
 use mathlib.Core.Path.{_≡_, refl, _∙_}
 use mathlib.Core.Bool.{Bool, true, false, _||_}
 use mathlib.Core.List.{List, [], _∷_}
@@ -10,10 +10,10 @@ use lib.Seq.{drop-cons}
 use Rattle.lists.proofs.TestLaws.{or-false}
 use Rattle.bits.specs.Order.{order}
 use Rattle.bits.proofs.OrderLaws.{order-le}
-use Rattle.spread.specs.Limits.{columns, outside}
+use Rattle.spread.specs.Limits.{outside}
 use Rattle.spread.specs.Round.{orderAll, sum}
 use Rattle.spread.proofs.Limits.{between}
-use Rattle.sheet.specs.Sheet.{rowsMost, heaviestOnSheet, anyBad}
+use Rattle.sheet.specs.Sheet.{rowsMost, heaviestOnSheet, columnsOnSheet, anyBad}
 
 -- ---- one by one
 
@@ -45,7 +45,7 @@ order-end ws r h = rw (drop-of-length-le ws {i = r} h) refl
 
 -- ---- in range
 
-pub order-small : (ws : List ℕ) → anyBad ws ≡ false → orderAll ws ≤ columns
+pub order-small : (ws : List ℕ) → anyBad ws ≡ false → orderAll ws ≤ columnsOnSheet
 unfolding anyBad orderAll
 order-small [] e = omega arith
 order-small (w ∷ ws) e =

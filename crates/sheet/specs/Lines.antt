@@ -2,10 +2,14 @@
 use Prim.Native.Nat.{ℕ, zero, suc, _*_, _≤_, _<_}
 use mathlib.Core.Path.{_≡_}
 use mathlib.Core.List.{List, [], _++_}
-use lib.ListN.{getD, take, drop}
+use lib.ListN.{length, getD, take, drop}
 use Rattle.spread.specs.Visits.{columnAt}
 use Rattle.spread.specs.Round.{rowsWith}
-use Rattle.sheet.specs.Sheet.{rowsMost}
+use Rattle.sheet.specs.Sheet.{rowsMost, columnsOnSheet}
+
+-- room for every line and every count
+abbrev pub Room : List ℕ → List ℕ → Type 0
+Room lines counts = (length lines ≡ rowsMost * columnsOnSheet) × (length counts ≡ columnsOnSheet)
 
 -- what stands in the line of column c
 unfoldable pub lineOf : List ℕ → List ℕ → ℕ → List ℕ

@@ -13,9 +13,12 @@ use Rattle.spread.specs.Round.{roundOf}
 abbrev pub rowsMost : ℕ
 rowsMost = 64
 
--- A sheet's weights go from 1 to this. It is the sheet's own limit, whatever the scheduler's.
+-- A sheet's weights go from 1 to this, so it has at most 12 columns. These are the sheet's own limits, whatever the scheduler's.
 abbrev pub heaviestOnSheet : ℕ
 heaviestOnSheet = 4095
+
+abbrev pub columnsOnSheet : ℕ
+columnsOnSheet = 12
 
 -- accepted, or the first wrong place
 pub data Sheet : Type 0 where

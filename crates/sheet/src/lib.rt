@@ -10,11 +10,11 @@ ghost use mathlib.Core.Path.{_≡_};
 ghost use Prim.Native.Nat.{_-_, _*_, _^_, _≤_, _<_};
 ghost use lib.ListN.{length, getD};
 ghost use Rattle.bits.specs.Bit.{bit};
-ghost use Rattle.spread.specs.Limits.{outside, columns};
+ghost use Rattle.spread.specs.Limits.{outside};
 ghost use Rattle.spread.specs.Round.{orderAll, roundOf};
-ghost use Rattle.sheet.specs.Sheet.{rowsMost, heaviestOnSheet, anyBad, sheetCall};
+ghost use Rattle.sheet.specs.Sheet.{rowsMost, heaviestOnSheet, columnsOnSheet, anyBad, sheetCall};
 ghost use Rattle.sheet.specs.Matching.{matched};
-ghost use Rattle.sheet.specs.Lines.{lineOf, linesFrom, Few, Laid, LaidOne};
+ghost use Rattle.sheet.specs.Lines.{Room, lineOf, linesFrom, Few, Laid, LaidOne};
 ghost use Rattle.sheet.specs.Told.{heldTold, sheetTold};
 
 // The most weights of a sheet, and the heaviest.
@@ -74,15 +74,15 @@ fn order_all(weights: &[u32]) -> u32
 
 // 1 if a row of this weight stands in the column, else 0.
 fn in_column(weight: u32, column: u32) -> usize
-    requires { ⌜ column < columns ⌝ }
+    requires { ⌜ column < columnsOnSheet ⌝ }
     ensures { λ r. ⌜ r ≡ bit column weight ⌝ }
 {
     ((weight >> column) % 2) as usize
 }
 
-// Lays the line of a column and answers how many rows it has. Every row is written at the place that is next, and that place is kept if it stands in the column.
+// Lays the line of a column and answers how many rows it has. Each row is written at the line's next place, which is kept if the row stands in the column.
 fn lay_one(weights: &[u32], column: usize, lines: &mut [u8]) -> usize
-    requires { ⌜ (length (now weights) ≤ rowsMost) × (column < columns) × (length (now lines) ≡ rowsMost * columns) ⌝ }
+    requires { ⌜ (length (now weights) ≤ rowsMost) × (column < columnsOnSheet) × (length (now lines) ≡ rowsMost * columnsOnSheet) ⌝ }
     ensures { λ n. ⌜ LaidOne (now (weights .entry)) column n (now (lines .entry)) (now (lines .exit)) ⌝ }
 {
     let start = ROWS * column;
@@ -98,7 +98,7 @@ fn lay_one(weights: &[u32], column: usize, lines: &mut [u8]) -> usize
 
 // Lays the lines of the first k columns.
 fn lay(weights: &[u32], k: usize, lines: &mut [u8], counts: &mut [usize])
-    requires { ⌜ (length (now weights) ≤ rowsMost) × (k ≤ columns) × (length (now lines) ≡ rowsMost * columns) × (length (now counts) ≡ columns) ⌝ }
+    requires { ⌜ (length (now weights) ≤ rowsMost) × (k ≤ columnsOnSheet) × Room (now lines) (now counts) ⌝ }
     ensures { λ r. ⌜ Laid (now (weights .entry)) (now (lines .exit)) (now (counts .exit)) k ⌝ }
 {
     let mut c = 0;
@@ -135,7 +135,7 @@ fn hold(line: &[u8], rows: &[u32], start: usize) -> Held
 
 // The line of a column held against the list from a place on.
 fn scan(lines: &[u8], counts: &[usize], column: usize, rows: &[u32], at: usize) -> Held
-    requires { ⌜ (column < columns) × (length (now lines) ≡ rowsMost * columns) × (length (now counts) ≡ columns) × (getD (now counts) column 0 ≤ rowsMost) ⌝ }
+    requires { ⌜ (column < columnsOnSheet) × (getD (now counts) column 0 ≤ rowsMost) × Room (now lines) (now counts) ⌝ }
     ensures { λ h. ⌜ heldTold h ≡ matched (now (rows .entry)) at (lineOf (now (lines .entry)) (now (counts .entry)) column) ⌝ }
 {
     let start = ROWS * column;
@@ -145,7 +145,7 @@ fn scan(lines: &[u8], counts: &[usize], column: usize, rows: &[u32], at: usize) 
 
 // The lines of a round of order k, position by position.
 fn walk(lines: &[u8], counts: &[usize], k: u32, rows: &[u32]) -> Held
-    requires { ⌜ (k ≤ columns) × (length (now lines) ≡ rowsMost * columns) × (length (now counts) ≡ columns) × Few (now counts) k ⌝ }
+    requires { ⌜ (k ≤ columnsOnSheet) × Few (now counts) k × Room (now lines) (now counts) ⌝ }
     ensures { λ h. ⌜ heldTold h ≡ matched (now (rows .entry)) 0 (linesFrom (now (lines .entry)) (now (counts .entry)) k 0 (2 ^ k - 1)) ⌝ }
 {
     let last = (1u32 << k) - 1;
@@ -166,7 +166,7 @@ fn walk(lines: &[u8], counts: &[usize], k: u32, rows: &[u32]) -> Held
 
 // The visits of a round of these weights held against the list.
 fn round(weights: &[u32], rows: &[u32]) -> Held
-    requires { ⌜ (length (now weights) ≤ rowsMost) × (orderAll (now weights) ≤ columns) ⌝ }
+    requires { ⌜ (length (now weights) ≤ rowsMost) × (orderAll (now weights) ≤ columnsOnSheet) ⌝ }
     ensures { λ h. ⌜ heldTold h ≡ matched (now (rows .entry)) 0 (roundOf (now (weights .entry))) ⌝ }
 {
     let mut lines: [u8; CELLS] = [0; CELLS];

@@ -1,6 +1,6 @@
 -- Whether one was bad so far, or one of the rest is.
 use Prim.Native.Nat.{_-_, _≤_}
-use mathlib.Core.Path.{_≡_, refl, sym, ap, _∙_}
+use mathlib.Core.Path.{_≡_, refl}
 use mathlib.Core.Bool.{_||_}
 use native.Mathlib.Numerals.{add-one}
 use native.Mathlib.Omega.{arith}

@@ -37,7 +37,8 @@ enum-known-held-2 c = search needs
 returns-3 : tie.Need-returns-3
 returns-3 c =
     let call = c .before .before .before in
-    says-wrong _ _ (call .before .before .before .if1 .left) (fine (call .before)) _ (sym (ap heldTold (c .before .held .given .1)) ∙ call .round .ensures)
+    let found = sym (ap heldTold (c .before .held .given .1)) ∙ call .round .ensures in
+    says-wrong _ _ (call .before .before .before .if1 .left) (fine (call .before)) _ found
 
 cast-t12 : tie.Need-cast-t12
 cast-t12 c = omega (arith, named-small _ _ _ (sym (returns-3 c)))
@@ -45,12 +46,14 @@ cast-t12 c = omega (arith, named-small _ _ _ (sym (returns-3 c)))
 returns-4 : tie.Need-returns-4
 returns-4 c =
     let call = c .before .before .before .before in
-    says-right _ _ (call .before .before .before .if1 .left) (fine (call .before)) _ (sym (ap heldTold (c .before .before .held2 .given .1)) ∙ call .round .ensures) (c .if3 .taken)
+    let found = sym (ap heldTold (c .before .before .held2 .given .1)) ∙ call .round .ensures in
+    says-right _ _ (call .before .before .before .if1 .left) (fine (call .before)) _ found (c .if3 .taken)
 
 returns-5 : tie.Need-returns-5
 returns-5 c =
     let call = c .before .before .before .before in
-    says-longer _ _ (call .before .before .before .if1 .left) (fine (call .before)) _ (sym (ap heldTold (c .before .before .held2 .given .1)) ∙ call .round .ensures) (c .if3 .left)
+    let found = sym (ap heldTold (c .before .before .held2 .given .1)) ∙ call .round .ensures in
+    says-longer _ _ (call .before .before .before .if1 .left) (fine (call .before)) _ found (c .if3 .left)
 
 cast-t16 : tie.Need-cast-t16
 cast-t16 c = omega (arith, named-small _ _ _ (sym (returns-5 c)))

@@ -20,7 +20,7 @@ abbrev μ-loop : tie.MeasureT-loop
 loop-holds : tie.Need-loop-holds Inv-loop μ-loop
 loop-holds c =
     let s = c .before .before .before in
-    (omega arith, s .pre .2, s .pre .3, laid-none _ _ _)
+    (omega arith, s .pre .2 .0, s .pre .2 .1, laid-none _ _ _)
 
 lay-one-requires : tie.Need-lay-one-requires Inv-loop μ-loop
 lay-one-requires c κs = search needs

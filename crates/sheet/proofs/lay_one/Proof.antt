@@ -6,7 +6,7 @@ use native.Mathlib.Numerals.{add-one}
 use native.Mathlib.Omega.{arith}
 use borrow.Author.Needs.{needs}
 use denote.Ref.{now}
-use lib.ListN.{length, getD, take, drop, length-set}
+use lib.ListN.{length, getD, take, drop}
 use lib.Seq.{take-set-le}
 use Rattle.bits.proofs.BitLaws.{bit-lt}
 use Rattle.spread.specs.Round.{rowsWith}
@@ -68,8 +68,8 @@ loop-again c =
       omega arith,
       omega arith,
       refl,
-      omega (arith, length-set (l .lines) (64 * a .column + l .n) (l .r), l .inv .3),
-      take-set-le (64 * a .column) (l .lines) (64 * a .column + l .n) (l .r) (omega arith) ∙ l .inv .4,
+      search needs,
+      take-set-le (64 * a .column) (l .lines) _ _ (omega arith) ∙ l .inv .4,
       rw (add-one (l .r), c .in-column .ensures)
           (lines-turn (a .column) (l .r) (l .n) (64 * a .column) (now (a .weights)) (l .lines) (c .before .before .loop-test .taken) (omega arith) (l .inv .5)),
     )

@@ -33,7 +33,8 @@ returns : tie.Need-returns
 returns c =
     let a = c .before .before .before .before .before .before .before .before .before .before .before .args in
     let order = c .before .before .before .before .before .before .before .before .order-all in
-    held-round (now (a .weights)) (now (a .rows)) _ _ (order .result) (order .ensures) (c .before .before .before .before .before .lay .ensures) (c .walk .ensures)
+    let laid = c .before .before .before .before .before .lay .ensures in
+    held-round (now (a .weights)) (now (a .rows)) _ _ (order .result) (order .ensures) laid (c .walk .ensures)
 
 pub round-spec : {M : Type 1} → statement M
 round-spec =

@@ -52,7 +52,7 @@ cast-column c = search needs
 scan-requires : tie.Need-scan-requires Inv-loop μ-loop
 scan-requires c κs =
     let s = c .before .before .before .before .before .before in
-    (omega arith, s .pre .1, s .pre .2, s .pre .3 _ (c .column-at .ensures .1))
+    (omega arith, s .pre .1 _ (c .column-at .ensures .1), s .pre .2)
 
 enum-known-held : tie.Need-enum-known-held Inv-loop μ-loop
 enum-known-held c = search needs
