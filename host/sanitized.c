@@ -2,9 +2,9 @@
  * The C entries on memory that ends where nobody may touch the next byte: each call is made three times, on buffers that end at a
  * forbidden page, on buffers that begin behind one, and on buffers of just their length from malloc, and must do the same each time.
  * First comes a script whose answers are known, field by field; then calls at random in each edition, of which enough must be accepted. They begin
- * where every cell is taken. A refusal must be one that the call can give, keep the state and a lent image and write 0 to every field. Run as
- * "sanitized [calls] [seed]"; host/README.md has the commands. Exits with 1 for a library that does anything else: refuses.c,
- * keeps.c and writes.c are three.
+ * where every cell is taken. A refusal must be one that the call can give, keep the state and a lent image and write 0 to every field. Last come round
+ * sheets, known and at random, in lists of just their length. Run as "sanitized [calls] [seed]"; host/README.md has the commands. Exits with 1 for a
+ * library that does anything else: refuses.c, keeps.c, writes.c and reads.c are four.
  */
 #define _DEFAULT_SOURCE
 #include <inttypes.h>
@@ -588,6 +588,176 @@ static void run_at_random(unsigned long calls, uint32_t edition)
     }
 }
 
+/* ---- Round sheets: two lists of just their length, each beside nobody's byte, and an answer. */
+
+enum { NUMBERS = SPACE / 4 };
+
+struct sheet {
+    uint32_t weights[NUMBERS], rows[NUMBERS];
+    size_t weights_length, rows_length, answer_length;
+};
+
+/* What is wrong with what a sheet's check left, or NULL. */
+static const char *sheet_fault(const struct sheet *s, uint32_t number, const uint32_t *weights, const uint32_t *rows, const uint8_t *answer)
+{
+    if (memcmp(weights, s->weights, 4 * s->weights_length) != 0 || memcmp(rows, s->rows, 4 * s->rows_length) != 0)
+        return "a list is changed";
+    if (s->answer_length != UPLINK_SHEET_LENGTH)
+        return number != UPLINK_UNSOUND ? "an answer of wrong length is taken"
+               : !all_are(PAINT, answer, s->answer_length) ? "an answer of wrong length is touched"
+                                                           : NULL;
+    if (number != UPLINK_ACCEPTED && number != UPLINK_TOO_MANY && number != UPLINK_BAD_WEIGHT)
+        return "a number that this call never gives";
+    if (number != UPLINK_ACCEPTED && !all_are(0, answer, s->answer_length))
+        return "a refusal leaves a field that is not 0";
+    if (number == UPLINK_ACCEPTED && (uplink_field(answer, 0) > 1 || (uplink_field(answer, 0) == 1 && uplink_field(answer, 1) != 0) ||
+                                      uplink_field(answer, 1) > s->rows_length))
+        return "no answer has those fields";
+    return NULL;
+}
+
+/* The check at every place. It has to give this number and, with an answer of the right length, these fields. */
+static void checked(const struct sheet *s, uint32_t number, uint32_t accepted, uint32_t wrong)
+{
+    for (int place = 0; place < PLACES; place++) {
+        uint32_t *weights = (uint32_t *)(void *)lent(0, place, 4 * s->weights_length), *rows = (uint32_t *)(void *)lent(2, place, 4 * s->rows_length);
+        uint8_t *answer = lent(1, place, s->answer_length);
+        memcpy(weights, s->weights, 4 * s->weights_length);
+        memcpy(rows, s->rows, 4 * s->rows_length);
+        memset(answer, PAINT, s->answer_length);
+        uint32_t given_number = uplink_sheet(weights, s->weights_length, rows, s->rows_length, answer, s->answer_length);
+        const char *why = sheet_fault(s, given_number, weights, rows, answer);
+        if (!why && given_number != number)
+            why = "another number than the sheet's";
+        if (!why && s->answer_length == UPLINK_SHEET_LENGTH && (uplink_field(answer, 0) != accepted || uplink_field(answer, 1) != wrong))
+            why = "another answer than the sheet's";
+        if (why) {
+            printf("%s: a sheet of %zu weights and %zu rows, the first %" PRIu32 " and %" PRIu32 ", with an answer of %zu, gave %" PRIu32 " at place %d\n", why,
+                   s->weights_length, s->rows_length, s->weights_length ? s->weights[0] : 0, s->rows_length ? s->rows[0] : 0, s->answer_length,
+                   given_number, place);
+            exit(1);
+        }
+        given_back((uint8_t *)weights, place);
+        given_back(answer, place);
+        given_back((uint8_t *)rows, place);
+    }
+    steps++;
+}
+
+/* Appends the visits of S(term) where the whole sequence is S(order): half, the rows of the term's column, half. */
+static void append_visits(struct sheet *s, uint32_t term, uint32_t order)
+{
+    if (term == 0)
+        return;
+    append_visits(s, term - 1, order);
+    for (uint32_t row = 0; row < s->weights_length; row++)
+        if (s->weights[row] >> (order - term) & 1)
+            s->rows[s->rows_length++] = row;
+    append_visits(s, term - 1, order);
+}
+
+/* The true sheet of the weights that it has. */
+static void to_round(struct sheet *s)
+{
+    uint32_t order = 0;
+    for (size_t row = 0; row < s->weights_length; row++)
+        while (s->weights[row] >> order != 0)
+            order++;
+    s->rows_length = 0, s->answer_length = UPLINK_SHEET_LENGTH;
+    append_visits(s, order, order);
+}
+
+/* A true sheet, each beginning of it, each place with a number that is no row's, and one number too many. */
+static void run_sheet(struct sheet *s)
+{
+    to_round(s);
+    size_t whole = s->rows_length;
+    checked(s, UPLINK_ACCEPTED, 1, 0);
+    for (size_t place = 0; place < whole; place++) {
+        s->rows_length = place;
+        checked(s, UPLINK_ACCEPTED, 0, (uint32_t)place);
+        s->rows_length = whole, s->rows[place] ^= 0x100;
+        checked(s, UPLINK_ACCEPTED, 0, (uint32_t)place);
+        s->rows[place] ^= 0x100;
+    }
+    s->rows[s->rows_length++] = 0;
+    checked(s, UPLINK_ACCEPTED, 0, (uint32_t)whole);
+    s->rows_length--;
+    for (size_t length = 0; length <= WIDEST; length++)
+        if (length != UPLINK_SHEET_LENGTH)
+            s->answer_length = length, checked(s, UPLINK_UNSOUND, 0, 0);
+    s->answer_length = UPLINK_SHEET_LENGTH;
+}
+
+/* Where a list is not the round of its weights first; NUMBERS where it is that round. */
+static size_t first_wrong(const struct sheet *s)
+{
+    static struct sheet right_one;
+    size_t place = 0;
+    right_one = *s;
+    to_round(&right_one);
+    while (place < s->rows_length && place < right_one.rows_length && s->rows[place] == right_one.rows[place])
+        place++;
+    return place < s->rows_length || place < right_one.rows_length ? place : NUMBERS;
+}
+
+static struct sheet *any_weights(struct sheet *s)
+{
+    uint32_t most = 1 + below(12);
+    s->weights_length = below(8) ? below(8) : UPLINK_ROWS_MOST - below(2);
+    for (size_t row = 0; row < s->weights_length; row++)
+        s->weights[row] = 1 + below(most);
+    return s;
+}
+
+/* A true sheet, or one that is cut, has a number more or another one; of some, a weight is out of range. */
+static void run_any_sheet(struct sheet *s)
+{
+    to_round(s);
+    size_t place = below((uint32_t)s->rows_length + 1), row = below((uint32_t)s->weights_length + 1);
+    switch (below(4)) {
+    case 0: s->rows_length = place; break;
+    case 1: s->rows[s->rows_length++] = below(65); break;
+    case 2: s->rows[place] = below(2) ? below(65) : UINT32_MAX - below(65), s->rows_length += place == s->rows_length; break;
+    default: break;
+    }
+    if (below(4) == 0 && row < s->weights_length) {
+        s->weights[row] = below(2) ? 0 : UPLINK_HEAVIEST_ON_SHEET + 1 + below(UINT32_MAX - UPLINK_HEAVIEST_ON_SHEET);
+        checked(s, UPLINK_BAD_WEIGHT, 0, 0);
+        return;
+    }
+    place = first_wrong(s);
+    checked(s, UPLINK_ACCEPTED, place == NUMBERS, place == NUMBERS ? 0 : (uint32_t)place);
+}
+
+static void run_sheets(unsigned long times)
+{
+    /* Document 01's check 5. */
+    static struct sheet s = {{1, 4, 8, 3}, {2, 1, 2, 3, 2, 1, 2, 0, 3, 2, 1, 2, 3, 2, 1, 2}, 4, 16, UPLINK_SHEET_LENGTH};
+    checked(&s, UPLINK_ACCEPTED, 1, 0);
+    run_sheet(&s);
+    s.weights_length = 0;
+    run_sheet(&s);
+    s.weights[0] = 2047, s.weights_length = 1;
+    to_round(&s), checked(&s, UPLINK_ACCEPTED, 1, 0);
+    s.weights[0] = UPLINK_HEAVIEST_ON_SHEET;
+    checked(&s, UPLINK_ACCEPTED, 0, 2047);
+    s.weights[0] = UPLINK_HEAVIEST_ON_SHEET + 1;
+    checked(&s, UPLINK_BAD_WEIGHT, 0, 0);
+    for (size_t row = 0; row < NUMBERS; row++)
+        s.weights[row] = 1;
+    s.weights_length = UPLINK_ROWS_MOST;
+    run_sheet(&s);
+    s.weights_length++;
+    checked(&s, UPLINK_TOO_MANY, 0, 0);
+    s.weights[0] = 0;
+    checked(&s, UPLINK_TOO_MANY, 0, 0);
+    s.weights_length = NUMBERS;
+    checked(&s, UPLINK_TOO_MANY, 0, 0);
+    for (unsigned long i = 0; i < times; i++)
+        i % 64 == 0 ? run_sheet(any_weights(&s)) : run_any_sheet(any_weights(&s));
+}
+
 int main(int count, char **words)
 {
     unsigned long calls = count > 1 ? strtoul(words[1], NULL, 10) : 1000000;
@@ -599,6 +769,7 @@ int main(int count, char **words)
     run_script();
     run_at_random(calls / 2, 1);
     run_at_random(calls - calls / 2, 2);
+    run_sheets(calls / 50);
     printf("%lu known answers and %lu calls at random, each at %d places: no fault\n", steps, calls, PLACES);
     return 0;
 }

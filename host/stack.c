@@ -11,13 +11,15 @@
 #include "plain.h"
 
 enum { ROOM = 1 << 16, PAINT = 0xA5, ENOUGH = 2048, UNPARK_ENOUGH = 10240, PLAIN_ENOUGH = 8192 };
-enum kind { NONE, START, OPEN, PUT, CLOSE, NEXT, ASK, FULLEST, LEAD, TERM, PARK, UNPARK, PLAIN_PUT, PLAIN_NEXT, KINDS };
+enum kind { NONE, START, OPEN, PUT, CLOSE, NEXT, ASK, FULLEST, LEAD, TERM, SHEET, PARK, UNPARK, PLAIN_PUT, PLAIN_NEXT, KINDS };
 
-static const char *const names[KINDS] = {"", "start", "open", "put", "close", "next", "ask", "fullest", "lead", "term",
+static const char *const names[KINDS] = {"", "start", "open", "put", "close", "next", "ask", "fullest", "lead", "term", "sheet",
                                         "park", "unpark", "plain_put", "plain_next"};
 static unsigned char stack[ROOM];
 static uint8_t state[UPLINK_STATE_LENGTH], image[UPLINK_IMAGE_LENGTH], answer[64];
 static uint32_t image_length;
+/* Rows of weight 4,095 to 4,032 and a list that is right up to its end, in the round's first column. */
+static uint32_t weights[UPLINK_ROWS_MOST], rows[UPLINK_ROWS_MOST];
 static uint32_t slot, ticket, edition;
 static enum kind asked;
 static ucontext_t here, there;
@@ -34,6 +36,7 @@ static void call(void)
     case FULLEST: uplink_fullest(state, sizeof state, answer, UPLINK_FULLEST_LENGTH); break;
     case LEAD: uplink_lead(1, 2, 3, 4, answer, UPLINK_LEAD_LENGTH); break;
     case TERM: uplink_term(4, 8, answer, UPLINK_TERM_LENGTH); break;
+    case SHEET: uplink_sheet(weights, UPLINK_ROWS_MOST, rows, sizeof rows / sizeof *rows, answer, UPLINK_SHEET_LENGTH); break;
     case PARK:
         uplink_park(state, sizeof state, image, sizeof image, answer, UPLINK_PARK_LENGTH);
         image_length = uplink_field(answer, 0);
@@ -80,9 +83,11 @@ static enum kind by_matrix(enum kind kind)
 int main(void)
 {
     /* The first Put joins the rows. */
-    const enum kind calls[] = {OPEN, ASK, PUT, PUT, FULLEST, PARK, UNPARK, NEXT, NEXT, NEXT, NEXT, NEXT, NEXT, NEXT, NEXT, CLOSE, LEAD, TERM, START};
+    const enum kind calls[] = {OPEN, ASK, PUT, PUT, FULLEST, PARK, UNPARK, NEXT, NEXT, NEXT, NEXT, NEXT, NEXT, NEXT, NEXT, CLOSE, LEAD, TERM, SHEET, START};
     long none = touched(NONE), most[KINDS] = {0};
     int wrong = 0;
+    for (uint32_t row = 0; row < UPLINK_ROWS_MOST; row++)
+        weights[row] = UPLINK_HEAVIEST_ON_SHEET - row, rows[row] = row;
     /* In edition 2 twice: the second time a heavy row leaves with the first Next, and the others go through a round's end. All again with support's engine. */
     for (int run = 0; run < 6; run++) {
         edition = run % 3 == 0 ? 1 : 2;

@@ -7,16 +7,17 @@
  * every byte and the answer's fields are 0. An answer is a lent buffer of an exact length; its fields are 4 bytes
  * each, lowest byte first, and uplink_field reads one (uplink_lead: one field of 8 bytes, two's complement, read by
  * uplink_signed). A buffer of another length gives UPLINK_UNSOUND before all else, and no buffer is touched. State,
- * image and answer must not overlap. No alignment is asked for. docs/ANSWERS.md has every byte.
+ * image, lists and answer must not overlap. No alignment is asked for but that of uint32_t, for the lists of
+ * uplink_sheet. docs/ANSWERS.md has every byte.
  *
  * For a change of the firmware uplink_park writes the state to an image that any later firmware reads by uplink_unpark.
  * The state is then parked: but for uplink_start and uplink_unpark, every call on it gives UPLINK_PARKED.
  *
  * Work: a call reads the state about once; uplink_put and uplink_next then move up to 3,066 bytes of it by one place;
- * uplink_park writes the image once, and uplink_unpark reads it, writes it again to compare, and writes the state.
- * Every loop has a bound, whatever bytes are lent; no call allocates, blocks, recurses or keeps a pointer. Stack:
- * 2,048 bytes are enough for any call but uplink_unpark, for which 10,240 are: it builds the state aside before it
- * writes.
+ * uplink_park writes the image once, and uplink_unpark reads it, writes it again to compare, and writes the state;
+ * uplink_sheet looks at each weight at most once for each of up to 4,095 positions, whatever lists are lent. Every loop
+ * has a bound, whatever bytes are lent; no call allocates, blocks, recurses or keeps a pointer. Stack: 2,048 bytes are
+ * enough for any call but uplink_unpark, for which 10,240 are: it builds the state aside before it writes.
  *
  * Interrupts and threads: there is no static data, so calls on different states may interrupt each other or run at the
  * same time. On one state only one call may be under way: whoever makes a call from an interrupt has to be sure that it
@@ -36,7 +37,7 @@ extern "C" {
 #endif
 
 /* Version of this interface: major * 10000 + minor * 100 + patch. */
-#define UPLINK_VERSION 40000
+#define UPLINK_VERSION 40100
 
 /* Lengths in bytes of the lent state, of the longest image and of each call's answer. */
 #define UPLINK_STATE_LENGTH 4102
@@ -50,6 +51,7 @@ extern "C" {
 #define UPLINK_PARK_LENGTH 4
 #define UPLINK_LEAD_LENGTH 8
 #define UPLINK_TERM_LENGTH 4
+#define UPLINK_SHEET_LENGTH 8
 
 /* Slots are 0 to UPLINK_SLOTS - 1. Tickets are 1 to UPLINK_LAST_TICKET, so that 0 is nobody's. */
 #define UPLINK_SLOTS 64
@@ -58,6 +60,10 @@ extern "C" {
 /* Weights are 1 to UPLINK_HEAVIEST, and orders 1 to UPLINK_COLUMNS: a column for each bit of a weight. */
 #define UPLINK_HEAVIEST 4095
 #define UPLINK_COLUMNS 12
+
+/* A round sheet has up to UPLINK_ROWS_MOST weights of 1 to UPLINK_HEAVIEST_ON_SHEET, whatever a channel's may be. */
+#define UPLINK_ROWS_MOST 64
+#define UPLINK_HEAVIEST_ON_SHEET 4095
 
 /*
  * Lengths of records are 1 to UPLINK_LONGEST bytes, without framing. A record costs its channel its length and
@@ -98,21 +104,22 @@ extern "C" {
 /* The numbers sent back. uplink_text has them in words. 9 is not used. */
 enum uplink_refusal {
     UPLINK_ACCEPTED = 0,
-    UPLINK_NO_SLOT = 1,      /* slot above 63 */
-    UPLINK_NOT_PRESENT = 2,  /* slot free, or ticket not its present one */
-    UPLINK_AT_CLOSING = 3,   /* channel is closing */
-    UPLINK_BAD_LENGTH = 4,   /* length 0 or above 1,014 */
-    UPLINK_FULL = 5,         /* 64 records wait already */
-    UPLINK_BAD_WEIGHT = 6,   /* weight 0 or above 4,095 */
-    UPLINK_NONE_FREE = 7,    /* no slot can be opened */
-    UPLINK_NONE_WAITS = 8,   /* no record waits */
-    UPLINK_UNSOUND = 10,     /* lent state unsound or of wrong length; answer buffer of wrong length */
-    UPLINK_NO_TERM = 11,     /* order not 1 to 12, or position not 1 to 2^order - 1 */
-    UPLINK_BAD_EDITION = 12, /* edition not 1 or 2 */
-    UPLINK_NO_SHARED = 13,   /* two records or more wait, and no shared cell is free */
-    UPLINK_PARKED = 14,      /* state is parked: it takes only uplink_start and uplink_unpark */
-    UPLINK_BAD_IMAGE = 15,   /* not exactly the image of one sound state */
-    UPLINK_SHORT_BUFFER = 16 /* buffer too short for the image */
+    UPLINK_NO_SLOT = 1,       /* slot above 63 */
+    UPLINK_NOT_PRESENT = 2,   /* slot free, or ticket not its present one */
+    UPLINK_AT_CLOSING = 3,    /* channel is closing */
+    UPLINK_BAD_LENGTH = 4,    /* length 0 or above 1,014 */
+    UPLINK_FULL = 5,          /* 64 records wait already */
+    UPLINK_BAD_WEIGHT = 6,    /* weight 0 or above 4,095 */
+    UPLINK_NONE_FREE = 7,     /* no slot can be opened */
+    UPLINK_NONE_WAITS = 8,    /* no record waits */
+    UPLINK_UNSOUND = 10,      /* lent state unsound or of wrong length; answer buffer of wrong length */
+    UPLINK_NO_TERM = 11,      /* order not 1 to 12, or position not 1 to 2^order - 1 */
+    UPLINK_BAD_EDITION = 12,  /* edition not 1 or 2 */
+    UPLINK_NO_SHARED = 13,    /* two records or more wait, and no shared cell is free */
+    UPLINK_PARKED = 14,       /* state is parked: it takes only uplink_start and uplink_unpark */
+    UPLINK_BAD_IMAGE = 15,    /* not exactly the image of one sound state */
+    UPLINK_SHORT_BUFFER = 16, /* buffer too short for the image */
+    UPLINK_TOO_MANY = 17      /* more than 64 weights */
 };
 
 /*
@@ -181,6 +188,18 @@ uint32_t uplink_lead(uint32_t w1, uint32_t v1, uint32_t w2, uint32_t v2, uint8_t
 /* The term at a position, 1 to 2^order - 1, of the spread sequence of an order. Answer: the term. */
 uint32_t uplink_term(uint32_t order, uint32_t position, uint8_t *answer, size_t answer_length);
 
+/*
+ * Checks a round sheet, say of another maker's adapter: the weights of rows in joining order and a list of row numbers.
+ * It is accepted exactly if the list is the visits of one round with every row always waiting, which this scheduler makes
+ * in both editions. Rows and places are counted from 0; the two lengths count numbers, not bytes, and may be any. Answer:
+ * 1 if the sheet is accepted, else 0; the first wrong place, 0 if accepted. Of a list that is too short that is the place
+ * after its last, of one that is too long the first place too many; a number that is no row's is wrong where it stands.
+ * Refused with UPLINK_TOO_MANY for more than UPLINK_ROWS_MOST weights, then with UPLINK_BAD_WEIGHT for one that is not 1
+ * to UPLINK_HEAVIEST_ON_SHEET. A sheet that is found wrong is no refusal: its number is UPLINK_ACCEPTED.
+ */
+uint32_t uplink_sheet(const uint32_t *weights, size_t weights_length, const uint32_t *rows, size_t rows_length,
+                      uint8_t *answer, size_t answer_length);
+
 /* Field i of an answer, the first is 0: 4 bytes, lowest first. The answer has to have that field. */
 static inline uint32_t uplink_field(const uint8_t *answer, size_t i)
 {
@@ -215,6 +234,7 @@ static inline const char *uplink_text(uint32_t number)
     case UPLINK_PARKED: return "state is parked";
     case UPLINK_BAD_IMAGE: return "not the image of a state";
     case UPLINK_SHORT_BUFFER: return "buffer too short for the image";
+    case UPLINK_TOO_MANY: return "more than 64 weights";
     default: return "not a number of these calls";
     }
 }

@@ -36,10 +36,12 @@ pub enum Refusal {
     BadImage = 15,
     /// "16 from the writer for a buffer too short"
     ShortBuffer = 16,
+    /// "17 for more than 64 weights"
+    TooMany = 17,
 }
 
 impl Refusal {
-    pub const ALL: [Refusal; 15] = [
+    pub const ALL: [Refusal; 16] = [
         Refusal::NoSlot,
         Refusal::NotPresent,
         Refusal::AtClosing,
@@ -55,6 +57,7 @@ impl Refusal {
         Refusal::Parked,
         Refusal::BadImage,
         Refusal::ShortBuffer,
+        Refusal::TooMany,
     ];
 
     /// The documents' number.
@@ -138,6 +141,13 @@ pub struct Written {
     pub length: u32,
 }
 
+/// What the checker of round sheets answers: "it accepts .. Otherwise it names the first wrong place".
+#[derive(Clone, Copy, Debug, PartialEq, Eq)]
+pub enum Sheet {
+    Right,
+    WrongAt { place: u32 },
+}
+
 /// An answer as document 01 lists it: its fields in order.
 pub trait Fields: Sized {
     fn fields(&self) -> Vec<u32>;
@@ -214,6 +224,24 @@ impl Fields for Written {
     fn of(fields: &[u32]) -> Option<Written> {
         let &[length] = fields else { return None };
         Some(Written { length })
+    }
+}
+
+/// 1 if accepted, else 0; the first wrong place, 0 if accepted.
+impl Fields for Sheet {
+    fn fields(&self) -> Vec<u32> {
+        match *self {
+            Sheet::Right => vec![1, 0],
+            Sheet::WrongAt { place } => vec![0, place],
+        }
+    }
+
+    fn of(fields: &[u32]) -> Option<Sheet> {
+        match *fields {
+            [1, 0] => Some(Sheet::Right),
+            [0, place] => Some(Sheet::WrongAt { place }),
+            _ => None,
+        }
     }
 }
 

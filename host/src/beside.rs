@@ -4,6 +4,7 @@ use crate::engine::Engine;
 use crate::history::Call;
 use crate::layout;
 use crate::lent::Lent;
+use crate::model::answer_fields;
 
 /// The first engine answers; the comparer asks how the second differed.
 pub struct Beside<A, B> {
@@ -29,12 +30,13 @@ impl<A: Engine, B: Engine> Beside<A, B> {
         let (mut state_copy, mut image_copy, mut answer_copy) = (Lent::new(state), Lent::new(image), Lent::new(answer));
         let number = self.first.call(&call, state, image, answer);
         let other = self.second.call(&call, state_copy.content(), image_copy.content(), answer_copy.content());
+        let lends = call.lends();
         let differs = || {
             if other != number {
                 return Some(format!("number {other}, should be {number}"));
             }
             let in_answer = answer_copy.differs(answer, |_| "the answer".to_string());
-            let in_answer = in_answer.or_else(|| image_copy.differs(image, |_| "the image".to_string()));
+            let in_answer = in_answer.or_else(|| image_copy.differs(image, |_| lends.to_string()));
             in_answer.or_else(|| state_copy.differs(state, |place| format!("the memory ({})", layout::name_of(place))))
         };
         self.parted = differs().map(|what| format!("the second engine beside the first: {what}"));
@@ -85,6 +87,14 @@ impl<A: Engine, B: Engine> Engine for Beside<A, B> {
 
     fn term(&mut self, order: u32, position: u32, answer: &mut [u8]) -> u32 {
         self.both(Call::Term { order, position }, &mut [], answer)
+    }
+
+    fn sheet(&mut self, weights: &mut [u32], rows: &mut [u32], answer: &mut [u8]) -> u32 {
+        let call = Call::Sheet { weights: weights.to_vec(), rows: rows.to_vec() };
+        let mut lists = call.image();
+        let number = self.both_with(call, &mut [], &mut lists, answer);
+        weights.iter_mut().chain(rows).zip(answer_fields(&lists)).for_each(|(number, left)| *number = left);
+        number
     }
 
     fn parted(&mut self) -> Option<String> {

@@ -1,5 +1,5 @@
 //! The comparer: each call is made on the engine under test, on lent bytes, and on the independent scheduler, on its own state.
-//! The number, every byte of the answer, of a lent image and of the memory must agree after each call.
+//! The number, every byte of the answer, of a lent image or lists and of the memory must agree after each call.
 
 use std::fmt;
 
@@ -11,6 +11,7 @@ use crate::layout;
 use crate::lent::{Lent, UNWRITTEN};
 use crate::model::answer_bytes;
 use crate::scheduler::Scheduler;
+use crate::sheet;
 use crate::shrink::shrink;
 use crate::spread;
 
@@ -82,7 +83,7 @@ impl Pair {
         if let Some(what) = answer.differs(&expected_answer, |_| "the answer".to_string()) {
             return Err(what);
         }
-        if let Some(what) = image.differs(&expected_image, |_| "the image".to_string()) {
+        if let Some(what) = image.differs(&expected_image, |_| call.lends().to_string()) {
             return Err(what);
         }
         if let Some(what) = self.lent.differs(&self.expected, |place| format!("the memory ({})", layout::name_of(place))) {
@@ -114,6 +115,7 @@ impl Pair {
             },
             Call::Lead { w1, v1, w2, v2 } => spread::lead(w1, v1, w2, v2).map(|lead| lead.to_le_bytes().to_vec()),
             Call::Term { order, position } => spread::term(order, position).map(|term| answer_bytes(&[term])),
+            Call::Sheet { ref weights, ref rows } => sheet::check(weights, rows).map(|sheet| answer_bytes(&sheet.fields())),
             _ => match &mut self.scheduler {
                 Some(scheduler) => state_call(scheduler, call).map(|fields| answer_bytes(&fields)),
                 None => Err(Refusal::Unsound),
@@ -156,7 +158,7 @@ impl Pair {
         }
         let kept = if call.takes_answer() && right_answer { vec![0; answer_length] } else { unwritten };
         let differs = answer.differs(&kept, |_| "the answer".to_string());
-        let differs = differs.or_else(|| image.differs(&call.image(), |_| "the image".to_string()));
+        let differs = differs.or_else(|| image.differs(&call.image(), |_| call.lends().to_string()));
         match differs.or_else(|| state.differs(&before, |_| "the mislent memory".to_string())) {
             Some(what) => Err(what),
             None => Ok(()),
@@ -195,7 +197,7 @@ pub fn state_call(scheduler: &mut Scheduler, call: &Call) -> Result<Vec<u32>, Re
             *scheduler = read;
             Vec::new()
         }),
-        Call::Lead { .. } | Call::Term { .. } => Ok(Vec::new()),
+        Call::Lead { .. } | Call::Term { .. } | Call::Sheet { .. } => Ok(Vec::new()),
     }
 }
 

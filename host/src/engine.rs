@@ -2,7 +2,8 @@
 
 use crate::history::Call;
 
-/// Each call answers document 01's number; the fields go to the answer buffer. Unpark too is lent an image that it could write, so that the comparer would see it.
+/// Each call answers document 01's number; the fields go to the answer buffer. Unpark too is lent an image that it could write, and Sheet such lists,
+/// so that the comparer would see it.
 pub trait Engine {
     fn start(&mut self, state: &mut [u8], edition: u32) -> u32;
     fn open(&mut self, state: &mut [u8], weight: u32, answer: &mut [u8]) -> u32;
@@ -15,13 +16,15 @@ pub trait Engine {
     fn unpark(&mut self, state: &mut [u8], image: &mut [u8]) -> u32;
     fn lead(&mut self, w1: u32, v1: u32, w2: u32, v2: u32, answer: &mut [u8]) -> u32;
     fn term(&mut self, order: u32, position: u32, answer: &mut [u8]) -> u32;
+    fn sheet(&mut self, weights: &mut [u32], rows: &mut [u32], answer: &mut [u8]) -> u32;
 
     /// Where this is two engines in one: how they differed in the last call. One by itself never does.
     fn parted(&mut self) -> Option<String> {
         None
     }
 
-    /// The call by its name. Park's buffer and Unpark's image are lent as the image, which other calls do not take.
+    /// The call by its name. Park's buffer and Unpark's image are lent as the image, which other calls do not take; as Sheet's it shows what the two lists hold
+    /// after the call.
     fn call(&mut self, call: &Call, state: &mut [u8], image: &mut [u8], answer: &mut [u8]) -> u32 {
         match *call {
             Call::Start { edition } => self.start(state, edition),
@@ -35,6 +38,12 @@ pub trait Engine {
             Call::Unpark { .. } => self.unpark(state, image),
             Call::Lead { w1, v1, w2, v2 } => self.lead(w1, v1, w2, v2, answer),
             Call::Term { order, position } => self.term(order, position, answer),
+            Call::Sheet { ref weights, ref rows } => {
+                let (mut weights, mut rows) = (weights.clone(), rows.clone());
+                let number = self.sheet(&mut weights, &mut rows, answer);
+                image.copy_from_slice(&Call::Sheet { weights, rows }.image());
+                number
+            }
         }
     }
 }

@@ -11,6 +11,7 @@ use crate::scheduler::{
     Channel, Kind, Record, Scheduler, COLUMNS, EDITIONS, FRAMING, GOING, GRANT, LAST_TICKET, LONGEST, MOST_WAITING, SLOTS,
 };
 use crate::shapes::{Action, Shape, SHAPES};
+use crate::sheets;
 
 const BAD_SLOTS: [u32; 7] = [64, 65, 128, 256, 320, 0x8000_0000, u32::MAX];
 const BAD_WEIGHTS: [u32; 7] = [0, 4_096, 4_097, 8_191, 65_537, 0x8000_0001, u32::MAX];
@@ -252,6 +253,9 @@ impl Builder {
     }
 
     fn apart(&mut self) -> Call {
+        if self.random.chance(1, 2) {
+            return sheets::any(&mut self.random);
+        }
         if self.random.chance(1, 2) {
             let order = self.random.pick(&[0, 1, 2, 3, 4, 8, 11, 12, 12, 13, 31, 32, 64, u32::MAX]);
             let end = 1u64 << order.min(12);

@@ -4,6 +4,7 @@ use std::fmt;
 
 use crate::layout;
 use crate::lent::UNWRITTEN;
+use crate::model::answer_bytes;
 use crate::scheduler::EDITIONS;
 
 #[derive(Clone, Debug, PartialEq, Eq)]
@@ -47,6 +48,10 @@ pub enum Call {
         order: u32,
         position: u32,
     },
+    Sheet {
+        weights: Vec<u32>,
+        rows: Vec<u32>,
+    },
 }
 
 impl Call {
@@ -55,17 +60,17 @@ impl Call {
         match self {
             Call::Start { .. } | Call::Unpark { .. } => 0,
             Call::Close { .. } | Call::Park { .. } | Call::Term { .. } => 4,
-            Call::Open { .. } | Call::Put { .. } | Call::Lead { .. } => 8,
+            Call::Open { .. } | Call::Put { .. } | Call::Lead { .. } | Call::Sheet { .. } => 8,
             Call::Ask { .. } => 20,
             Call::Next => 28,
             Call::Fullest => 44,
         }
     }
 
-    /// Its numbers, in the order of the C entry's parameters.
+    /// Its numbers, in the order of the C entry's parameters. What it is lent is not among them.
     pub fn numbers(&mut self) -> Vec<&mut u32> {
         match self {
-            Call::Next | Call::Fullest | Call::Park { .. } | Call::Unpark { .. } => Vec::new(),
+            Call::Next | Call::Fullest | Call::Park { .. } | Call::Unpark { .. } | Call::Sheet { .. } => Vec::new(),
             Call::Start { edition } => vec![edition],
             Call::Open { weight } => vec![weight],
             Call::Put { slot, ticket, length, reference } => vec![slot, ticket, length, reference],
@@ -76,19 +81,28 @@ impl Call {
     }
 
     pub fn takes_state(&self) -> bool {
-        !matches!(self, Call::Lead { .. } | Call::Term { .. })
+        !matches!(self, Call::Lead { .. } | Call::Term { .. } | Call::Sheet { .. })
     }
 
     pub fn takes_answer(&self) -> bool {
         !matches!(self, Call::Start { .. } | Call::Unpark { .. })
     }
 
-    /// What is lent as the image: a buffer for Park, the bytes to be read for Unpark, nothing for the others.
+    /// What is lent as the image: a buffer for Park, the bytes to be read for Unpark, those of both lists for Sheet, nothing for the others.
     pub fn image(&self) -> Vec<u8> {
         match self {
             Call::Park { room } => vec![UNWRITTEN; *room],
             Call::Unpark { image } => image.clone(),
+            Call::Sheet { weights, rows } => answer_bytes(&[&weights[..], &rows[..]].concat()),
             _ => Vec::new(),
+        }
+    }
+
+    /// What that is.
+    pub fn lends(&self) -> &'static str {
+        match self {
+            Call::Sheet { .. } => "the lists",
+            _ => "the image",
         }
     }
 }
@@ -108,12 +122,23 @@ impl fmt::Display for Call {
             Call::Unpark { image } => write!(out, "# unpark {} bytes: {}", image.len(), hexadecimal(image)),
             Call::Lead { w1, v1, w2, v2 } => write!(out, "# lead {w1} {v1} {w2} {v2}"),
             Call::Term { order, position } => write!(out, "# term {order} {position}"),
+            Call::Sheet { weights, rows } => write!(out, "# sheet of weights {}: {}", listed(weights), listed(rows)),
         }
     }
 }
 
 fn hexadecimal(bytes: &[u8]) -> String {
     bytes.iter().map(|byte| format!("{byte:02x}")).collect()
+}
+
+/// The numbers of a list, of a long one its beginning.
+fn listed(numbers: &[u32]) -> String {
+    const SHOWN: usize = 100;
+    let mut words: Vec<String> = numbers.iter().take(SHOWN).map(u32::to_string).collect();
+    if numbers.len() > SHOWN {
+        words.push(format!(".. ({} in all)", numbers.len()));
+    }
+    format!("[{}]", words.join(" "))
 }
 
 /// One step of a history.

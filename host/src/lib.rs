@@ -1,11 +1,11 @@
 //! The scheduler's C entries compared with an independent scheduler.
 //!
-//! - [`scheduler`], [`steps`], [`sound`], [`notes`], [`spread`], [`answers`]: an independent scheduler, written from documents 01 and 02 over plain
-//!   structures.
+//! - [`scheduler`], [`steps`], [`sound`], [`notes`], [`spread`], [`sheet`], [`answers`]: an independent scheduler, written from documents 01 and 02 over plain
+//!   structures, and a checker of round sheets.
 //! - [`layout`]: the lent memory, written from and read into that scheduler; [`check`]: the same question asked record by record; [`image`]: the parked image.
 //! - [`engine`], `linked` and `entries` (feature `linked`), [`model`], [`beside`], [`history`], [`lent`], [`compare`], [`shrink`]: an engine under test, or two that
 //!   must agree, is run beside the independent scheduler, call by call, and every byte is compared.
-//! - [`random`], [`states`], [`pool`], [`damage`], [`shapes`], [`generate`]: what the compared runs are fed with.
+//! - [`random`], [`states`], [`pool`], [`damage`], [`sheets`], [`shapes`], [`generate`]: what the compared runs are fed with.
 //! - [`deficit`]: deficit round robin, to measure against; [`door`]: how long a door waits beside a drive; `pictures` (feature `linked`): the pictures in
 //!   docs/.
 //! - [`lift`], [`page`], [`texts`]: the command programs' text, from input bytes to output bytes, `matrix` with its pages, and texts to compare a real `lift` and
@@ -38,6 +38,8 @@ pub mod pool;
 pub mod random;
 pub mod scheduler;
 pub mod shapes;
+pub mod sheet;
+pub mod sheets;
 pub mod shrink;
 pub mod sound;
 pub mod spread;

@@ -6,8 +6,8 @@ use std::path::Path;
 use std::process::Command;
 
 use uplink::entries::{
-    uplink_ask, uplink_close, uplink_fullest, uplink_lead, uplink_next, uplink_open, uplink_park, uplink_put, uplink_start, uplink_term,
-    uplink_unpark,
+    uplink_ask, uplink_close, uplink_fullest, uplink_lead, uplink_next, uplink_open, uplink_park, uplink_put, uplink_sheet, uplink_start,
+    uplink_term, uplink_unpark,
 };
 
 use crate::beside::Beside;
@@ -17,7 +17,7 @@ use crate::entries::{plain_next, plain_put};
 /// The entries of one archive. Any lengths may be lent to them.
 ///
 /// Each call is safe: pointer and length are those of a slice that is lent for the call alone, and two exclusive slices never overlap. Ask and Fullest too
-/// are lent memory that they could write, so that the comparer would see it.
+/// are lent memory that they could write, and Sheet such lists, so that the comparer would see it.
 #[derive(Clone, Copy)]
 pub struct Entries {
     start: Start,
@@ -33,6 +33,8 @@ pub struct Entries {
     unpark: Option<Unpark>,
     lead: Lead,
     term: Term,
+    /// None in an archive from before §9.
+    sheet: Option<Sheet>,
 }
 
 type Start = unsafe extern "C" fn(*mut u8, usize, u32) -> u32;
@@ -46,6 +48,7 @@ type Park = unsafe extern "C" fn(*mut u8, usize, *mut u8, usize, *mut u8, usize)
 type Unpark = unsafe extern "C" fn(*mut u8, usize, *const u8, usize) -> u32;
 type Lead = unsafe extern "C" fn(u32, u32, u32, u32, *mut u8, usize) -> u32;
 type Term = unsafe extern "C" fn(u32, u32, *mut u8, usize) -> u32;
+type Sheet = unsafe extern "C" fn(*const u32, usize, *const u32, usize, *mut u8, usize) -> u32;
 
 /// The entries that this program is linked with.
 pub const LINKED: Entries = Entries {
@@ -60,6 +63,7 @@ pub const LINKED: Entries = Entries {
     unpark: Some(uplink_unpark),
     lead: uplink_lead,
     term: uplink_term,
+    sheet: Some(uplink_sheet),
 };
 
 /// The same, with Put and Next of support's engine.
@@ -111,6 +115,7 @@ impl Entries {
                 unpark: symbol(c"uplink_unpark").ok().map(|found| as_entry::<*mut c_void, Unpark>(found)),
                 lead: as_entry::<*mut c_void, Lead>(symbol(c"uplink_lead")?),
                 term: as_entry::<*mut c_void, Term>(symbol(c"uplink_term")?),
+                sheet: symbol(c"uplink_sheet").ok().map(|found| as_entry::<*mut c_void, Sheet>(found)),
             })
         }
     }
@@ -162,5 +167,10 @@ impl Engine for Entries {
 
     fn term(&mut self, order: u32, position: u32, answer: &mut [u8]) -> u32 {
         unsafe { (self.term)(order, position, answer.as_mut_ptr(), answer.len()) }
+    }
+
+    fn sheet(&mut self, weights: &mut [u32], rows: &mut [u32], answer: &mut [u8]) -> u32 {
+        let sheet = self.sheet.expect("the archive checks sheets");
+        unsafe { sheet(weights.as_mut_ptr(), weights.len(), rows.as_mut_ptr(), rows.len(), answer.as_mut_ptr(), answer.len()) }
     }
 }

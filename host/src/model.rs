@@ -1,10 +1,11 @@
 //! The model engine: the independent scheduler behind the C entries' shape. It stands in for the exported library where that is not linked,
 //! and wrong engines are made from it to test the comparer.
 
-use crate::answers::{Fields, Refusal, Written};
+use crate::answers::{Fields, Refusal, Sheet, Written};
 use crate::engine::Engine;
 use crate::layout;
 use crate::scheduler::Scheduler;
+use crate::sheet;
 use crate::spread;
 
 pub struct Model;
@@ -66,6 +67,11 @@ pub fn apart<const N: usize>(answer: &mut [u8], result: Result<[u8; N], Refusal>
         }
         Err(refusal) => refusal.number(),
     }
+}
+
+/// The call on two lists.
+pub fn on_lists(answer: &mut [u8], result: Result<Sheet, Refusal>) -> u32 {
+    apart(answer, result.map(|sheet| <[u8; 8]>::try_from(answer_bytes(&sheet.fields())).expect("two fields")))
 }
 
 impl Engine for Model {
@@ -135,5 +141,9 @@ impl Engine for Model {
 
     fn term(&mut self, order: u32, position: u32, answer: &mut [u8]) -> u32 {
         apart(answer, spread::term(order, position).map(u32::to_le_bytes))
+    }
+
+    fn sheet(&mut self, weights: &mut [u32], rows: &mut [u32], answer: &mut [u8]) -> u32 {
+        on_lists(answer, sheet::check(weights, rows))
     }
 }

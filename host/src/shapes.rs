@@ -22,7 +22,7 @@ pub enum Action {
     Stale,
     /// A call with numbers out of range.
     Bad,
-    /// Lead or term.
+    /// Lead, term or a sheet.
     Apart,
     /// A byte or a number of the memory is changed, some calls are made, and it is changed back if it made the memory unsound.
     Damage,

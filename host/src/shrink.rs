@@ -11,6 +11,7 @@ use crate::image::{image_of, read, LONGEST_IMAGE};
 use crate::layout::{self, EDITION};
 use crate::model::Model;
 use crate::scheduler::{Channel, Scheduler, LONGEST, SLOTS};
+use crate::sheets;
 
 /// Steps that may be run while shrinking, so that a long history does not hold up the report.
 const STEPS: usize = 400_000;
@@ -180,6 +181,7 @@ fn plainer(call: Call) -> Vec<Call> {
         Call::Unpark { ref image } => {
             plainer_images(image).into_iter().map(|image| Call::Unpark { image }).take_while(|plain| *plain != call).collect()
         }
+        Call::Sheet { ref weights, ref rows } => sheets::plainer(weights, rows),
         Call::Close { slot, ticket } | Call::Ask { slot, ticket } if slot > 0 => vec![moved(call, (0, ticket))],
         _ => Vec::new(),
     }

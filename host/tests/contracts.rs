@@ -6,7 +6,7 @@ mod rattle;
 use rattle::{functions, source, Function};
 
 /// Where the public calls stand, and which they are.
-const CALLS: [(&str, &[&str]); 11] = [
+const CALLS: [(&str, &[&str]); 12] = [
     ("uplink/src/open.rt", &["start", "open"]),
     ("uplink/src/put.rt", &["put"]),
     ("uplink/src/close.rt", &["close"]),
@@ -16,6 +16,7 @@ const CALLS: [(&str, &[&str]); 11] = [
     ("spread/src/lib.rt", &["term", "lead"]),
     ("image/src/writer.rt", &["park"]),
     ("image/src/reader.rt", &["unpark"]),
+    ("sheet/src/lib.rt", &["check"]),
     ("support/src/lib.rt", &["plain_put", "plain_next"]),
     (
         "driver/src/lib.rt",
@@ -31,6 +32,7 @@ const CALLS: [(&str, &[&str]); 11] = [
             "uplink_unpark",
             "uplink_term",
             "uplink_lead",
+            "uplink_sheet",
         ],
     ),
 ];
@@ -64,7 +66,7 @@ fn no_public_call_has_a_requires() {
 /// An entry that this list does not have would be a public call that nobody looks at.
 #[test]
 fn every_exported_entry_is_listed() {
-    for (file, calls) in &CALLS[9..] {
+    for (file, calls) in &CALLS[10..] {
         let exported: Vec<String> = functions(&source(file)).into_iter().filter(|f| f.exported).map(|f| f.name).collect();
         assert_eq!(exported, *calls);
     }

@@ -14,7 +14,7 @@ use host::history::Call;
 use rattle::{functions, source};
 
 /// Each entry with a call of its kind.
-const ENTRIES: [(&str, Call); 11] = [
+const ENTRIES: [(&str, Call); 12] = [
     ("uplink_start", Call::Start { edition: 0 }),
     ("uplink_open", Call::Open { weight: 0 }),
     ("uplink_put", Call::Put { slot: 0, ticket: 0, length: 0, reference: 0 }),
@@ -26,6 +26,7 @@ const ENTRIES: [(&str, Call); 11] = [
     ("uplink_unpark", Call::Unpark { image: Vec::new() }),
     ("uplink_term", Call::Term { order: 0, position: 0 }),
     ("uplink_lead", Call::Lead { w1: 0, v1: 0, w2: 0, v2: 0 }),
+    ("uplink_sheet", Call::Sheet { weights: Vec::new(), rows: Vec::new() }),
 ];
 
 /// And those of support's engine.
@@ -38,6 +39,7 @@ enum Two {
     StateAndAnswer,
     StateAndImage,
     ImageAndAnswer,
+    WeightsAndRows,
 }
 
 /// An engine with two parameters of one kind of call exchanged.
@@ -67,6 +69,7 @@ impl<E: Engine> Exchanged<E> {
             Two::StateAndAnswer => engine.call(&call, answer, image, state),
             Two::StateAndImage => engine.call(&call, image, state, answer),
             Two::ImageAndAnswer => engine.call(&call, state, answer, image),
+            Two::WeightsAndRows => unreachable!("the lists are exchanged below"),
         }
     }
 }
@@ -115,9 +118,16 @@ impl<E: Engine> Engine for Exchanged<E> {
     fn term(&mut self, order: u32, position: u32, answer: &mut [u8]) -> u32 {
         self.made(Call::Term { order, position }, &mut [], answer)
     }
+
+    fn sheet(&mut self, weights: &mut [u32], rows: &mut [u32], answer: &mut [u8]) -> u32 {
+        match self.two {
+            Two::WeightsAndRows => self.engine.sheet(rows, weights, answer),
+            _ => self.engine.sheet(weights, rows, answer),
+        }
+    }
 }
 
-/// Every two numbers of an entry, and every two of state, image and answer where it has both.
+/// Every two numbers of an entry, every two of state, image and answer where it has both, and both lists of a sheet.
 fn exchanges(mut call: Call) -> Vec<Two> {
     let count = call.numbers().len();
     let mut found: Vec<Two> = (0..count).flat_map(|other| (0..other).map(move |one| Two::Numbers(one, other))).collect();
@@ -127,6 +137,7 @@ fn exchanges(mut call: Call) -> Vec<Two> {
     match call {
         Call::Park { .. } => found.extend([Two::StateAndImage, Two::ImageAndAnswer]),
         Call::Unpark { .. } => found.push(Two::StateAndImage),
+        Call::Sheet { .. } => found.push(Two::WeightsAndRows),
         _ => {}
     }
     found
@@ -142,7 +153,7 @@ fn every_exchange_is_found() {
             tried += 1;
         }
     }
-    assert_eq!(tried, 25);
+    assert_eq!(tried, 26);
 }
 
 /// Those of support's engine, beside the adapter's as it is.

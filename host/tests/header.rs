@@ -140,9 +140,9 @@ fn refusals_have_the_same_texts_in_rust() {
     }
 }
 
-/// `name = number` of the specs that hold document 01's limits.
+/// `name = number` of the specs that hold the documents' limits.
 fn limits() -> Numbers {
-    let texts = source("rules/specs/Numbers.antt") + &source("spread/specs/Limits.antt");
+    let texts = source("rules/specs/Numbers.antt") + &source("spread/specs/Limits.antt") + &source("sheet/specs/Sheet.antt");
     once(texts.lines().filter_map(|line| {
         let (name, value) = line.split_once(" = ")?;
         Some((capitals(name), number(value)?))
@@ -189,6 +189,7 @@ fn macros_have_the_numbers_of_code_and_specs() {
         ("PARK", Call::Park { room: LENGTH }),
         ("LEAD", Call::Lead { w1: 1, v1: 1, w2: 1, v2: 1 }),
         ("TERM", Call::Term { order: 1, position: 1 }),
+        ("SHEET", Call::Sheet { weights: Vec::new(), rows: Vec::new() }),
     ];
     let mut expected = limits();
     for (name, call) in calls {
@@ -241,6 +242,7 @@ fn in_rattle(name: &str) -> BTreeMap<String, Parameters> {
         for (name, kind) in entry.parameters {
             let pointer = match &kind[..] {
                 "u32" => "uint32_t",
+                "&[u32]" => "const uint32_t *",
                 "&[u8]" => "const uint8_t *",
                 "&mut [u8]" => "uint8_t *",
                 _ => panic!("{}: a parameter of type {kind}", entry.name),
@@ -263,6 +265,7 @@ fn in_rust(file: &str) -> BTreeMap<String, Parameters> {
             "u32" => "uint32_t",
             "usize" => "size_t",
             "*const u8" => "const uint8_t *",
+            "*const u32" => "const uint32_t *",
             "*mut u8" => "uint8_t *",
             _ => panic!("{parameter}: another type"),
         };

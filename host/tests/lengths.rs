@@ -11,7 +11,7 @@ use host::pool;
 use host::scheduler::EDITIONS;
 use host::states;
 
-const CALLS: [Call; 15] = [
+const CALLS: [Call; 16] = [
     Call::Start { edition: 1 },
     Call::Start { edition: 2 },
     // Another length is refused before another edition is.
@@ -28,6 +28,8 @@ const CALLS: [Call; 15] = [
     Call::Lead { w1: 0, v1: 2, w2: 3, v2: 4 },
     Call::Term { order: 3, position: 4 },
     Call::Term { order: 0, position: 4 },
+    // No rows and an empty list; tests/sheet.rs has others.
+    Call::Sheet { weights: Vec::new(), rows: Vec::new() },
 ];
 
 /// Those of parked queues: buffers of just the length, longer and too short, an image and none.

@@ -88,6 +88,9 @@ fn a_silent_engine_is_found() {
         fn term(&mut self, _: u32, _: u32, _: &mut [u8]) -> u32 {
             0
         }
+        fn sheet(&mut self, _: &mut [u32], _: &mut [u32], _: &mut [u8]) -> u32 {
+            0
+        }
     }
     let report = run_seeds(&mut Silent, SEED, 100).unwrap_err();
     assert_eq!(report.history.steps.len(), 1);

@@ -7,7 +7,7 @@ use host::layout::{fresh, is_sound_memory, to_bytes, LENGTH};
 use host::random::Random;
 use host::states;
 use uplink::entries::uplink_start;
-use uplink::{lead, term, Added, Closed, Edition, Filling, Memory, Opened, Refusal, Sent, Standing, Told};
+use uplink::{lead, sheet, term, Added, Closed, Edition, Filling, Memory, Opened, Refusal, Sent, Sheet, Standing, Told};
 
 const EDITIONS: [Edition; 2] = [Edition::One, Edition::Two];
 
@@ -153,6 +153,7 @@ fn any_bytes_and_numbers() {
         let _ = memory.next();
         let _ = (memory.ask(number() % 65, number()), memory.fullest());
         let _ = (lead(number(), number(), number(), number()), term(number(), number()));
+        let _ = sheet(&[number() % 4_097, number()], &[number() % 3, number()]);
         memory.start(edition);
         assert_eq!(memory.bytes()[..], fresh(edition as u64));
     }
@@ -211,6 +212,36 @@ fn the_fullest_are_listed() {
     assert_eq!(list(&lost), Ok(vec![(2, 1_020), (4, 7), (6, 6), (0, 5), (3, 5)]));
 }
 
+/// Document 02, §9: document 01's check 5 as a sheet, wrong ones, and those refused for their weights.
+#[test]
+fn sheets_are_checked() {
+    let (weights, round) = ([1, 4, 8, 3], [2, 1, 2, 3, 2, 1, 2, 0, 3, 2, 1, 2, 3, 2, 1, 2]);
+    assert_eq!(sheet(&weights, &round), Ok(Sheet::Right));
+    assert_eq!(sheet(&weights, &round[..15]), Ok(Sheet::WrongAt(15)));
+    assert_eq!(sheet(&weights, &[&round[..], &[2]].concat()), Ok(Sheet::WrongAt(16)));
+    assert_eq!(sheet(&weights, &round.map(|row| if row == 3 { 64 } else { row })), Ok(Sheet::WrongAt(3)));
+    assert_eq!(sheet(&[], &[]), Ok(Sheet::Right));
+    assert_eq!(sheet(&[4_095], &[0; 4_095]), Ok(Sheet::Right));
+    assert_eq!(sheet(&[4_096], &[0; 4_096]), Err(Refusal::BadWeight));
+    assert_eq!(sheet(&[0; 65], &[]), Err(Refusal::TooMany));
+    assert_eq!((Refusal::TooMany.number(), Refusal::TooMany.to_string()), (17, "more than 64 weights".to_string()));
+    // What a memory sends, started visits alone, every channel always waiting.
+    for edition in EDITIONS {
+        let mut memory = Memory::new(edition);
+        for weight in weights {
+            let opened = memory.open(weight).unwrap();
+            (0..2).for_each(|_| assert!(memory.put(opened.slot, opened.ticket, 700, 0).is_ok()));
+        }
+        let mut visits = Vec::new();
+        while visits.len() < 16 {
+            let sent = memory.next().unwrap();
+            visits.extend(sent.started.then_some(sent.slot));
+            memory.put(sent.slot, sent.ticket, 700, 0).unwrap();
+        }
+        assert_eq!(sheet(&weights, &visits), Ok(Sheet::Right));
+    }
+}
+
 /// Ask and Fullest take a memory that is only lent to be read.
 #[test]
 fn ask_and_fullest_read_alone() {
@@ -227,7 +258,7 @@ fn a_refusal_is_an_error_with_a_text_of_its_own() {
     let texts: Vec<String> = Refusal::ALL.iter().map(|refusal| (refusal as &dyn Error).to_string()).collect();
     assert!(texts.iter().enumerate().all(|(place, text)| !text.is_empty() && !texts[..place].contains(text)), "{texts:?}");
     for number in 0..20 {
-        let used = (1..=8).contains(&number) || (10..=16).contains(&number);
+        let used = (1..=8).contains(&number) || (10..=17).contains(&number);
         assert_eq!(Refusal::from_number(number).map(Refusal::number), used.then_some(number));
     }
 }

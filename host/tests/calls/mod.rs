@@ -6,13 +6,14 @@ mod common;
 
 pub use common::engine;
 
-use host::answers::{Added, Closed, Fields, Fullest, Opened, Refusal, Sent, Told};
+use host::answers::{Added, Closed, Fields, Fullest, Opened, Refusal, Sent, Sheet, Told};
 use host::engine::Engine;
 use host::history::Call;
 use host::image::LONGEST_IMAGE;
 use host::layout::{sound_from_bytes, LENGTH};
 use host::model::answer_fields;
 use host::scheduler::{Scheduler, EDITIONS};
+use host::sheet;
 use host::spread::{lead, term};
 
 /// The calls that the checks make, whoever answers them.
@@ -29,6 +30,7 @@ pub trait Calls {
     fn park(&mut self) -> Result<(), Refusal>;
     fn term(&mut self, order: u32, position: u32) -> Result<u32, Refusal>;
     fn lead(&mut self, w1: u32, v1: u32, w2: u32, v2: u32) -> Result<i64, Refusal>;
+    fn sheet(&mut self, weights: &[u32], rows: &[u32]) -> Result<Sheet, Refusal>;
     /// The sound state that the last call left.
     fn state(&self) -> Scheduler;
 
@@ -94,6 +96,10 @@ impl Calls for Scheduler {
 
     fn lead(&mut self, w1: u32, v1: u32, w2: u32, v2: u32) -> Result<i64, Refusal> {
         lead(w1, v1, w2, v2)
+    }
+
+    fn sheet(&mut self, weights: &[u32], rows: &[u32]) -> Result<Sheet, Refusal> {
+        sheet::check(weights, rows)
     }
 
     fn state(&self) -> Scheduler {
@@ -172,6 +178,10 @@ impl<E: Engine> Calls for Lent<E> {
 
     fn lead(&mut self, w1: u32, v1: u32, w2: u32, v2: u32) -> Result<i64, Refusal> {
         self.answer(Call::Lead { w1, v1, w2, v2 }).map(|answer| i64::from_le_bytes(answer.try_into().unwrap()))
+    }
+
+    fn sheet(&mut self, weights: &[u32], rows: &[u32]) -> Result<Sheet, Refusal> {
+        self.fields(Call::Sheet { weights: weights.to_vec(), rows: rows.to_vec() })
     }
 
     fn state(&self) -> Scheduler {

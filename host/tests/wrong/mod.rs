@@ -4,6 +4,7 @@ mod held;
 mod notes;
 mod parked;
 mod pool;
+mod sheets;
 mod slip;
 
 use host::answers::{Opened, Refusal, Sent};
@@ -304,5 +305,9 @@ impl Engine for Wrong {
             return 0;
         }
         apart(answer, spread::term(order, position).map(u32::to_le_bytes))
+    }
+
+    fn sheet(&mut self, weights: &mut [u32], rows: &mut [u32], answer: &mut [u8]) -> u32 {
+        self.sheet_call(weights, rows, answer)
     }
 }

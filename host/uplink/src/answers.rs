@@ -55,6 +55,15 @@ pub struct Told {
     pub bytes: u32,
 }
 
+/// What a round sheet is found to be.
+#[derive(Clone, Copy, Debug, PartialEq, Eq, Hash)]
+pub enum Sheet {
+    /// Exactly the visits of one round.
+    Right,
+    /// The first wrong place, counted from 0; where the sheet is too short, the place after its last, and where it is too long, the first one too many.
+    WrongAt(u32),
+}
+
 /// A channel in the list of the fullest: its slot, and the bytes that wait there, without framing.
 #[derive(Clone, Copy, Debug, PartialEq, Eq, Hash)]
 pub struct Filling {

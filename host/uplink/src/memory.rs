@@ -1,13 +1,13 @@
-//! A memory and the calls on it, and the two calls that take none.
+//! A memory and the calls on it, and the three calls that take none.
 //!
 //! The fields of an answer come back in a buffer, 4 bytes each, lowest first; lead's one field has 8, two's complement.
 
 use std::fmt;
 
-use crate::answers::{Added, Closed, Filling, Opened, Sent, Standing, Told};
+use crate::answers::{Added, Closed, Filling, Opened, Sent, Sheet, Standing, Told};
 use crate::entries::{
-    uplink_ask, uplink_close, uplink_fullest, uplink_lead, uplink_next, uplink_open, uplink_park, uplink_put, uplink_start, uplink_term,
-    uplink_unpark,
+    uplink_ask, uplink_close, uplink_fullest, uplink_lead, uplink_next, uplink_open, uplink_park, uplink_put, uplink_sheet, uplink_start,
+    uplink_term, uplink_unpark,
 };
 use crate::refusal::Refusal;
 
@@ -161,6 +161,15 @@ pub fn term(order: u32, position: u32) -> Result<u32, Refusal> {
     let mut answer = [0; 4];
     let number = unsafe { uplink_term(order, position, answer.as_mut_ptr(), answer.len()) };
     accepted(number, field(&answer, 0))
+}
+
+/// Whether a list of rows is the visits of one round with every row always waiting, for rows of these weights in joining order. Rows are counted from 0; up to 64
+/// weights of 1 to 4,095 are taken.
+pub fn sheet(weights: &[u32], rows: &[u32]) -> Result<Sheet, Refusal> {
+    let mut answer = [0; 8];
+    let (ws, rs) = (weights.as_ptr(), rows.as_ptr());
+    let number = unsafe { uplink_sheet(ws, weights.len(), rs, rows.len(), answer.as_mut_ptr(), answer.len()) };
+    accepted(number, if field(&answer, 0) == 1 { Sheet::Right } else { Sheet::WrongAt(field(&answer, 1)) })
 }
 
 /// The answer of an accepted call. The entries give no number outside the table; one that did could not be trusted, so it reads as 10.

@@ -36,11 +36,13 @@ pub enum Refusal {
     BadImage = 15,
     /// The buffer is too short for the image.
     ShortBuffer = 16,
+    /// More than 64 weights on a round sheet.
+    TooMany = 17,
 }
 
 impl Refusal {
     /// Every refusal, by its number.
-    pub const ALL: [Refusal; 15] = [
+    pub const ALL: [Refusal; 16] = [
         Refusal::NoSlot,
         Refusal::NotPresent,
         Refusal::AtClosing,
@@ -56,6 +58,7 @@ impl Refusal {
         Refusal::Parked,
         Refusal::BadImage,
         Refusal::ShortBuffer,
+        Refusal::TooMany,
     ];
 
     /// The number that the call gave.
@@ -88,6 +91,7 @@ impl fmt::Display for Refusal {
             Refusal::Parked => "state is parked",
             Refusal::BadImage => "not the image of a state",
             Refusal::ShortBuffer => "buffer too short for the image",
+            Refusal::TooMany => "more than 64 weights",
         })
     }
 }

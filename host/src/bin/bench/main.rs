@@ -1,10 +1,11 @@
 //! How long the exported calls take: `bench [--beside path/to/another/libdriver.a]`. Prints tables; docs/SPEED.md has the first, of edition 1, and its picture
 //! is drawn from there. The second is the same of edition 2, the third has single Nexts where edition 2 holds the order. The fourth has Next and Put of support's
-//! engine (include/plain.h) beside the adapter's, the fifth the two calls of parked queues beside a Next, the last Ask and Fullest beside the check.
+//! engine (include/plain.h) beside the adapter's, the fifth the two calls of parked queues beside a Next, the sixth Ask and Fullest beside the check,
+//! the last checks of round sheets, each beside one pass over its list.
 //!
 //! All columns are measured in turn in the same run and are medians over many batches, so that their ratios mean something on any machine:
 //! - call: Next and Put in pairs, so that the fill stays the same, per call;
-//! - next: Next alone, four in a row (what they sent is put back in a time of its own, which only the last table has);
+//! - next: Next alone, four in a row (what they sent is put back in a time of its own);
 //! - check: a refused call (Ask of slot 64), which is the check of the memory alone;
 //! - read: the bytes of the memory taken together by `or`, once;
 //! - plain check: the memory checked record by record, straight on the bytes;
@@ -14,6 +15,7 @@
 //! before document 02, §3, which knows no edition, is measured in edition 1. One from before §4 is lent the same records in planes of its own 1,024 cells; a
 //! fill of more than 16 a channel is not held by it. One from before §7 is lent the memory without its notes.
 
+mod sheets;
 mod side;
 
 use std::env;
@@ -75,6 +77,7 @@ fn main() -> ExitCode {
     print!("\n{}", by_hand());
     print!("\n{}", parked());
     print!("\n{}", asked());
+    print!("\n{}", sheets::table());
     if archives.len() > 1 {
         println!("\nthe linked archive and the one beside it, and the linked one's time divided by the other's");
         for (edition, lines) in &of_editions {
