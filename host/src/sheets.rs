@@ -116,7 +116,7 @@ pub fn refused(random: &mut Random) -> Call {
     Call::Sheet { weights, rows }
 }
 
-/// A sheet as the generated histories have them: most of a few rows, some of 64, seldom with a weight at the limit; a third is true.
+/// A sheet as the generated histories have them: most of a few rows, some of 64, some with a weight at the limit; a third or so of them true.
 pub fn any(random: &mut Random) -> Call {
     if random.chance(1, 4) {
         return refused(random);
@@ -125,8 +125,8 @@ pub fn any(random: &mut Random) -> Call {
     let count = random.pick(&[few, few, few, 63, MOST_ROWS]);
     let heaviest = random.pick(&[1, 2, 3, 5, 8, 13]);
     let mut weights = weights(random, count, heaviest);
-    if count > 0 && count < 6 && random.chance(1, 8) {
-        weights[count - 1] = random.pick(&[HEAVIEST_ON_SHEET, HEAVIEST_ON_SHEET - 1, 2_048, 2_047]);
+    if count > 0 && count < 6 && random.chance(1, 4) {
+        weights[count - 1] = random.pick(&[HEAVIEST_ON_SHEET, HEAVIEST_ON_SHEET, HEAVIEST_ON_SHEET - 1, 2_048, 2_047]);
     }
     let fault = if random.chance(1, 3) { Fault::None } else { random.pick(&Fault::ALL) };
     sheet(random, weights, fault)

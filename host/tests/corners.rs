@@ -2,6 +2,7 @@
 
 mod fills;
 mod limits;
+mod makers;
 mod parks;
 
 use std::collections::BTreeMap;
@@ -14,6 +15,7 @@ use host::layout;
 use host::scheduler::{cost_of, Kind, Scheduler, GRANT, LAST_TICKET, LONGEST, MOST_WAITING, SHARED};
 use host::steps::Moment;
 use limits::{look_at_cells_left, look_at_cells_taken, look_at_damage, look_at_limits};
+use makers::look_at_sheet;
 use parks::look_at_parking;
 
 type Count = BTreeMap<&'static str, u32>;
@@ -91,7 +93,10 @@ const CORNERS: [&str; 65] = [
 
 #[test]
 fn histories_meet_every_corner() {
-    let mut count: Count = CORNERS.into_iter().chain(parks::CORNERS).chain(fills::CORNERS).map(|corner| (corner, 0)).collect();
+    let mut count: Count = {
+        let corners = CORNERS.into_iter().chain(parks::CORNERS).chain(fills::CORNERS).chain(makers::CORNERS);
+        corners.map(|corner| (corner, 0)).collect()
+    };
     let mut numbers = BTreeMap::new();
     for seed in 0..2_000 {
         let history = history(seed);
@@ -171,6 +176,7 @@ fn name(call: &Call) -> &'static str {
 
 fn look(before: &Scheduler, after: &Scheduler, call: &Call, result: &Result<Vec<u32>, u32>, count: &mut Count) {
     let mut met = |corner: &'static str, holds: bool| *count.get_mut(corner).expect("a corner of the list") += u32::from(holds);
+    look_at_sheet(call, &mut met);
     look_at_parking(before, after, call, *result.as_ref().err().unwrap_or(&0), &mut met);
     if let Ok(fields) = result {
         look_at_filling(before, after, call, fields, &mut met);
