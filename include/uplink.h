@@ -15,9 +15,9 @@
  *
  * Work: a call reads the state about once; uplink_put and uplink_next then move up to 3,066 bytes of it by one place;
  * uplink_park writes the image once, and uplink_unpark reads it, writes it again to compare, and writes the state;
- * uplink_sheet looks at each weight at most once for each of up to 4,095 positions, whatever lists are lent. Every loop
- * has a bound, whatever bytes are lent; no call allocates, blocks, recurses or keeps a pointer. Stack: 2,048 bytes are
- * enough for any call but uplink_unpark, for which 10,240 are: it builds the state aside before it writes.
+ * uplink_sheet takes a step for each visit that is right and for each of up to 4,095 positions. Every loop has a bound,
+ * whatever is lent; no call allocates, blocks, recurses or keeps a pointer. Stack: 2,048 bytes are enough for any call
+ * but uplink_unpark, for which 10,240 are: it builds the state aside before it writes.
  *
  * Interrupts and threads: there is no static data, so calls on different states may interrupt each other or run at the
  * same time. On one state only one call may be under way: whoever makes a call from an interrupt has to be sure that it

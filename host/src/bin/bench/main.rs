@@ -1,7 +1,7 @@
-//! How long the exported calls take: `bench [--beside path/to/another/libdriver.a]`. Prints tables; docs/SPEED.md has the first, of edition 1, and its picture
+//! How long the exported calls take: `bench [--sheets | --beside path/to/another/libdriver.a]`. Prints tables; docs/SPEED.md has the first, of edition 1, and its picture
 //! is drawn from there. The second is the same of edition 2, the third has single Nexts where edition 2 holds the order. The fourth has Next and Put of support's
 //! engine (include/plain.h) beside the adapter's, the fifth the two calls of parked queues beside a Next, the sixth Ask and Fullest beside the check,
-//! the last checks of round sheets, each beside one pass over its list.
+//! the last checks of round sheets, each beside one pass over its list (`--sheets`: that one alone).
 //!
 //! All columns are measured in turn in the same run and are medians over many batches, so that their ratios mean something on any machine:
 //! - call: Next and Put in pairs, so that the fill stays the same, per call;
@@ -53,6 +53,10 @@ fn main() -> ExitCode {
     let mut archives = vec![OWN];
     match &words.iter().map(String::as_str).collect::<Vec<_>>()[..] {
         [] => {}
+        ["--sheets"] => {
+            print!("{}", sheets::table());
+            return ExitCode::SUCCESS;
+        }
         ["--beside", archive] => match other(Path::new(archive)) {
             Ok(other) => archives.push(other),
             Err(error) => {
@@ -61,7 +65,7 @@ fn main() -> ExitCode {
             }
         },
         _ => {
-            eprintln!("bench [--beside path/to/another/libdriver.a]");
+            eprintln!("bench [--sheets | --beside path/to/another/libdriver.a]");
             return ExitCode::from(2);
         }
     }
