@@ -1,5 +1,5 @@
--- Demand 3 over acts: "No round runs across a start or a reading." A round is a part of the moments of acts of which none begins a history, so those of the calls
--- that they are seen as; and of these it is promised, in both editions.
+-- Demand 3 and round sheets over acts: "No round runs across a start or a reading." A round is a part of the moments of acts of which none begins a history, so
+-- those of the calls that they are seen as; and of these it is promised, in both editions.
 use Prim.Native.Nat.{ℕ, _+_, _*_, _≤_}
 use mathlib.Core.Path.{_≡_, refl, sym, ap, _∙_, subst}
 use mathlib.Core.Bool.{Bool, true, false}
@@ -11,11 +11,13 @@ use Rattle.rules.specs.Calls.{AllInRange}
 use Rattle.memory.specs.Reading.{stateOf}
 use Rattle.memory.specs.Memory.{soundBytes}
 use Rattle.promises.specs.Moments.{Moment, movedBy, visitsAt, costAt, momentsTotal}
-use Rattle.promises.specs.Rounds.{Starts, Waiting, MomentsThroughout, Steady, MomentsWithin}
+use Rattle.promises.specs.Rounds.{Starts, Waiting, MomentsThroughout, Steady, MomentsWithin, MomentsRound}
+use Rattle.promises.specs.Sheets.{visited, visitedBy, RowsAre, OnSheet}
 use Rattle.uplink.specs.Lent.{stepOn, ThroughoutOn}
 use Rattle.uplink.proofs.Runs.{step-sound-on, run-state}
-use Rattle.uplink.proofs.RoundDemands.{moments-lead-on, part-visited-on, part-cost-on, part-near-on, waits-at-moments-on}
-use Rattle.parking.specs.Acts.{Act, toCall, toPark, toUnpark, runBy, ActsInRange, NoBeginning, parkedOn, callsIn, callsBy, momentsBy}
+use Rattle.uplink.proofs.Observed.{along-on}
+use Rattle.uplink.proofs.RoundDemands.{moments-lead-on, part-visited-on, part-cost-on, part-near-on, part-sheet-on, sheet-answered-on, waits-at-moments-on}
+use Rattle.parking.specs.Acts.{Act, toCall, toPark, toUnpark, runBy, alongBy, ActsInRange, NoBeginning, parkedOn, callsIn, callsBy, momentsBy}
 use Rattle.parking.specs.Rounds.{RoundBy, ThroughoutBy}
 use Rattle.parking.proofs.ActLaws.{marked, by-parking, read-stays, no-beginning}
 use Rattle.parking.proofs.AsCalls.{as-calls, parked-acts, marked-acts, call-unparked}
@@ -50,6 +52,10 @@ module _ (b : List ℕ) (acts : List Act) (e : soundBytes b ≡ true) (f : ActsI
         → Steady (from .order) j from ms
         → Near (from .order) (at (from .channels) i .weight) (momentsTotal (visitsAt i) from ms) (at (from .channels) j .weight) (momentsTotal (visitsAt j) from ms)
     near-by i j n part = part-near-on b (callsBy b acts) e (in-range n) xs ms ys part i j
+
+    -- "the visits of one round with every row always waiting" (02 §9) are those of the sheet, in its order
+    pub sheet-by : RoundBy b acts xs ms ys → MomentsThroughout (RowsAre (from .rows)) from ms → OnSheet from (visitedBy from ms)
+    sheet-by R st = part-sheet-on b (callsBy b acts) e (in-range (R .none)) xs ms ys (R .part) (R .round) st
 
 -- ---- "a channel that has a record waiting at the start and after every call", here after every act
 
@@ -94,3 +100,12 @@ pub waits-at-moments-by : (i : ℕ) (b : List ℕ) (acts : List Act) → soundBy
     → MomentsThroughout (Waiting i) (stateOf b) (momentsBy b acts)
 waits-at-moments-by i b acts e f n w =
     waits-at-moments-on b (callsBy b acts) e (as-calls b acts e f n .in-range) i (throughout-by (Waiting i) b acts e f n w)
+
+-- the slots that the answers name with the start mark, where the moments of the acts are one round and the rows stay after every act
+pub sheet-answered-by : (b : List ℕ) (acts : List Act) → soundBytes b ≡ true → ActsInRange acts → NoBeginning acts → MomentsRound (stateOf b) (momentsBy b acts)
+    → ThroughoutBy (RowsAre (stateOf b .rows)) b acts → OnSheet (stateOf b) (alongBy visited b acts)
+sheet-answered-by b acts e f n R st =
+    let C = as-calls b acts e f n in
+    let cs = callsBy b acts in
+    subst (OnSheet (stateOf b)) (along-on visited b cs (C .in-range) e ∙ sym (C .seen visited (λ c z. refl)))
+    (sheet-answered-on b cs e (C .in-range) R (throughout-by (RowsAre (stateOf b .rows)) b acts e f n st))

@@ -1,8 +1,8 @@
 -- Edition 1, between calls: with the order equal after every call it is so at every moment, and inside a call there is no start, so a round over calls, as
--- document 01 has it, is a round over their moments. (In edition 2 a round can start inside a call.)
+-- document 01 has it, is a round over their moments. (In edition 2 a round can start inside a call, but not where the order is always the rows' own.)
 use Prim.Native.Nat.{ℕ, suc, _+_, _-_, _*_, _%_, _^_, _≤_, _<_}
 use mathlib.Core.Path.{_≡_, refl, sym, ap, _∙_, subst}
-use mathlib.Core.Bool.{Bool, false, true≢false}
+use mathlib.Core.Bool.{Bool, true, false, true≢false}
 use mathlib.Core.List.{List, [], _∷_, _++_}
 use mathlib.Core.Logic.{_⊎_, inl, inr}
 use mathlib.Core.Option.{none}
@@ -95,63 +95,87 @@ within-append n [] ys s a b = rw (add-zero n) at b
 within-append n (m ∷ xs) ys s a b =
     (a .0, within-append (n + sentAt s m) xs ys (moved s m) (a .1) (rw (add-assoc n (sentAt s m) (momentsTotal sentAt (moved s m) xs)) b))
 
--- a term taken is at no start: at the last position, an odd one, the highest column is scanned
-term-inside : {b : Stage} {s : State} → SoundTo b s → isEmpty (s .rows) ≡ false → held s ≡ false → Starts (termTaken s) → ⊥
-term-inside {b} {s} S e g B =
-    go (nextPosition (s .order) (s .scan .position)) refl (subst (λ (h : Bool). StartsAt h (s .order) (termTaken s .scan .position)) g (B .at-end))
-    (parity (nextPosition (s .order) (s .scan .position))) (term-position S e)
+-- where the order is the rows' own, the last position, an odd one, scans the highest column, and so finds a row
+last-filled : {b : Stage} {s : State} → SoundTo b s → isEmpty (s .rows) ≡ false → s .order ≡ rowsOrder s → suc (termTaken s .scan .position) ≡ 2 ^ s .order
+    → termTaken s .scan .toVisit ≡ [] → ⊥
+last-filled {b} {s} S e o last t =
+    go (nextPosition (s .order) (s .scan .position)) refl last (parity (nextPosition (s .order) (s .scan .position))) (term-position S e)
   where
     odd-filled : (p : ℕ) → p % 2 ≡ 1 → isEmpty (foundAt s p) ≡ false
     odd-filled p odd =
-        let full : s .order ≡ rowsOrder s = S .order-is (rw g refl) in
         let z : s .order - rowsOrder s ≡ 0 = omega arith in
         let one : p * 2 ^ 0 ≡ p = omega arith in
         rw (z, one) at (multiple-filled S e p odd)
 
-    go : (p : ℕ) → nextPosition (s .order) (s .scan .position) ≡ p → (p ≡ 0) ⊎ (suc p ≡ 2 ^ s .order) → (p % 2 ≡ 0) ⊎ (p % 2 ≡ 1)
-        → (1 ≤ p) × (p < 2 ^ s .order) → ⊥
-    go p q (inl z) c l = omega arith
-    go p q (inr z) (inl even) l = omega (arith, even-next (s .order) p (order-least S e) (l .1) even)
-    go p q (inr z) (inr odd) l = true≢false (sym (ap isEmpty (B .none-remain)) ∙ rw q (odd-filled p odd))
+    go : (p : ℕ) → nextPosition (s .order) (s .scan .position) ≡ p → suc p ≡ 2 ^ s .order → (p % 2 ≡ 0) ⊎ (p % 2 ≡ 1) → (1 ≤ p) × (p < 2 ^ s .order) → ⊥
+    go p q z (inl even) l = omega (arith, even-next (s .order) p (order-least S e) (l .1) even)
+    go p q z (inr odd) l = true≢false (sym (ap isEmpty t) ∙ rw q (odd-filled p odd))
 
-scanned-within : {s : State} {x : Chosen} {ms : List Moment} (n : ℕ) → Sound s → s .scan .visit ≡ none → isEmpty (s .rows) ≡ false → held s ≡ false
+-- so a term taken is at no start
+term-inside : {b : Stage} {s : State} → SoundTo b s → isEmpty (s .rows) ≡ false → s .order ≡ rowsOrder s → Starts (termTaken s) → ⊥
+term-inside {b} {s} S e o B = go (held s) (B .at-end)
+  where
+    go : (h : Bool) → StartsAt h (s .order) (termTaken s .scan .position) → ⊥
+    go true z = let one = term-position S e .0 in omega arith
+    go false (inl z) = let one = term-position S e .0 in omega arith
+    go false (inr z) = last-filled S e o z (B .none-remain)
+
+scanned-within : {s : State} {x : Chosen} {ms : List Moment} (n : ℕ) → Sound s → s .scan .visit ≡ none → isEmpty (s .rows) ≡ false → s .order ≡ rowsOrder s
     → (0 < n → Starts s → ⊥) → ScannedBy x s ms → MomentsWithin n s ms
 unfolding MomentsWithin moved
-scanned-within n S v e g inside (first-visit j rest t a b c) = (inside, tt)
-scanned-within n S v e g inside (term-first t o later) = (inside, scanned-within (n + 0) (term-rest S v e o) v e g (λ l. term-inside S e g) later)
-scanned-within n S v e g inside (last-term t o later) = absurd (true≢false (sym (o .held-there) ∙ g))
+scanned-within n S v e o inside (first-visit j rest t a b c) = (inside, tt)
+scanned-within n S v e o inside (term-first t z later) = (inside, scanned-within (n + 0) (term-rest S v e z) v e o (λ l. term-inside S e o) later)
+scanned-within n S v e o inside (last-term t O later) = absurd (last-filled S e o (O .last) (O .none-remain))
 
-chosen-within : {s : State} {x : Chosen} {ms : List Moment} (n : ℕ) → Sound s → isEmpty (s .rows) ≡ false → held s ≡ false → (0 < n → Starts s → ⊥)
+chosen-within : {s : State} {x : Chosen} {ms : List Moment} (n : ℕ) → Sound s → isEmpty (s .rows) ≡ false → s .order ≡ rowsOrder s → (0 < n → Starts s → ⊥)
     → ChosenBy x s ms → MomentsWithin n s ms
 unfolding MomentsWithin
-chosen-within n S e g inside (in-visit z same) = tt
-chosen-within n S e g inside (by-scan v way) = scanned-within n S v e g inside way
+chosen-within n S e o inside (in-visit z same) = tt
+chosen-within n S e o inside (by-scan v way) = scanned-within n S v e o inside way
 
 ended-within : {s s′ : State} {ms : List Moment} (n : ℕ) → SoundTo afterGrant s → EndedBy s s′ ms → MomentsWithin n s ms
 unfolding MomentsWithin
 ended-within n S (going-on e) = tt
 ended-within n S (round-end o) = (λ l B. over-inside S o B, tt)
 
-made-within : {k : ℕ} {s s′ : State} {c : Call} {ms : List Moment} (n : ℕ) → Sound s → Falls k s → (0 < n → Starts s → ⊥) → Made s c s′ ms → MomentsWithin n s ms
+-- a call from a state with rows in which the order is theirs
+made-within : {s s′ : State} {c : Call} {ms : List Moment} (n : ℕ) → Sound s → (isEmpty (s .rows) ≡ false → s .order ≡ rowsOrder s) → (0 < n → Starts s → ⊥)
+    → Made s c s′ ms → MomentsWithin n s ms
 unfolding MomentsWithin
-made-within n S F inside (unserved q) = tt
-made-within {k} {s} n S F inside (serving {choosing = choosing} {ends = ends} e N C E) =
+made-within n S o inside (unserved q) = tt
+made-within {s} n S o inside (serving {choosing = choosing} {ends = ends} e N C E) =
     let x = N .chosen in
     let there : movedBy s choosing ≡ x .state = chosen-leads S e C .there in
-    let g : held s ≡ false = F .falls (let l = order-least S e in let q = F .order-is in omega arith) in
     let T : SoundTo afterGrant (moved (x .state) aSend) = moved-kept aSend (x .slot, N .head, N .rest, N .choice .visit, N .still) (N .choice .sound) in
-    within-append n choosing (aSend ∷ ends) s (chosen-within n S e g inside C)
+    within-append n choosing (aSend ∷ ends) s (chosen-within n S e (o e) inside C)
     (rw there (λ l B. none-some (sym (B .no-visit) ∙ N .choice .visit), ended-within _ T E))
-made-within n S F inside (other x) = (inside, tt)
+made-within n S o inside (other x) = (inside, tt)
 
-along-within : (k n : ℕ) (cs : List Call) (s : State) → AllInRange cs → Sound s → Throughout (Falls k) s cs → WithinRound n s cs
-    → MomentsWithin n s (momentsAlong s cs)
-unfolding Throughout WithinRound momentsAlong MomentsWithin
-along-within k n [] s f S F inside = tt
-along-within k n (c ∷ cs) s f S F inside =
-    within-append n (momentsOf s c) (momentsAlong (step s c) cs) s (made-within n S (F .0) (inside .0) (made S c))
-    (rw (moments-lead c (f .0) S .there, made-total sends-same S (made S c))
-    (along-within k (n + counted oneSent s c) cs (step s c) (f .1) (step-kept c (f .0) S) (F .1) (inside .1)))
+-- calls throughout which P holds, where P says so
+module _ (P : State → Type 0) (own : (s : State) → Sound s → P s → isEmpty (s .rows) ≡ false → s .order ≡ rowsOrder s) where
+  pub along-within : (n : ℕ) (cs : List Call) (s : State) → AllInRange cs → Sound s → Throughout P s cs → WithinRound n s cs
+      → MomentsWithin n s (momentsAlong s cs)
+  unfolding Throughout WithinRound momentsAlong MomentsWithin
+  along-within n [] s f S p inside = tt
+  along-within n (c ∷ cs) s f S p inside =
+      within-append n (momentsOf s c) (momentsAlong (step s c) cs) s (made-within n S (own s S (p .0)) (inside .0) (made S c))
+      (rw (moments-lead c (f .0) S .there, made-total sends-same S (made S c))
+      (along-within (n + counted oneSent s c) cs (step s c) (f .1) (step-kept c (f .0) S) (p .1) (inside .1)))
+
+  pub along-round : (s : State) (cs : List Call) → Sound s → AllInRange cs → Throughout P s cs → Round s cs → MomentsRound s (momentsAlong s cs)
+  along-round s cs S f p R =
+      record {
+        starts = R .starts;
+        within = along-within 0 cs s f S p (R .within);
+        sent = rw (calls-total sends-same cs s f S) (R .sent);
+        ends = subst Starts (sym (moments-along cs f S .there)) (R .ends);
+      }
+
+-- in edition 1 the order is always the rows'
+falls-own : (k : ℕ) (s : State) → Sound s → Falls k s → isEmpty (s .rows) ≡ false → s .order ≡ rowsOrder s
+falls-own k s S F e =
+    let g : held s ≡ false = F .falls (let l = order-least S e in let q = F .order-is in omega arith) in
+    S .order-is (rw g refl)
 
 -- ---- calls from a state of edition 1, with the order equal throughout
 
@@ -165,16 +189,10 @@ module _ (k : ℕ) (s : State) (cs : List Call) (S : Sound s) (f : AllInRange cs
       (before-order k (momentsAlong s cs) s (a .0), a .1 .order-is)
 
   pub calls-within : WithinRound 0 s cs → MomentsWithin 0 s (momentsAlong s cs)
-  calls-within inside = along-within k 0 cs s f S fall inside
+  calls-within inside = along-within (Falls k) (falls-own k) 0 cs s f S fall inside
 
   pub calls-round : Round s cs → MomentsRound s (momentsAlong s cs)
-  calls-round R =
-      record {
-        starts = R .starts;
-        within = calls-within (R .within);
-        sent = rw (calls-total sends-same cs s f S) (R .sent);
-        ends = subst Starts (sym (moments-along cs f S .there)) (R .ends);
-      }
+  calls-round R = along-round (Falls k) (falls-own k) s cs S f fall R
 
 -- a channel that waits with the order equal after every call waits through the round
 pub waits-order : (k i : ℕ) (s : State) (cs : List Call) → Throughout (Waits k i) s cs → Throughout (λ r. r .order ≡ k) s cs

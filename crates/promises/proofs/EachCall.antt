@@ -1,19 +1,21 @@
 -- What a call is to a round: Next, or a call that sends nothing and leaves the edition, the scan point, and the weight and deficit of each slot that waits,
 -- alone, or a Start that is taken. Of the files on rounds this is the one that goes by which call it is.
-use Prim.Native.Nat.{ℕ}
+use Prim.Native.Nat.{ℕ, max}
 use mathlib.Core.Path.{_≡_, refl, sym, _∙_}
 use mathlib.Core.Bool.{true, false, true≢false, false≢true}
+use mathlib.Core.List.{List, [], _∷_, _++_}
 use native.Mathlib.Omega.{arith}
 use Rattle.lists.specs.Slots.{occurs}
 use Rattle.lists.proofs.SlotsLaws.{if-eq}
 use Rattle.answers.specs.Answer.{Refusal, refused, given}
-use Rattle.rules.specs.State.{State, fresh, at}
+use Rattle.rules.specs.State.{Record, State, fresh, at}
 use Rattle.rules.specs.Reply.{Done, after}
 use Rattle.rules.specs.Next.{Sent, nextCall}
-use Rattle.rules.specs.Calls.{openCall, putCall, closeCall, askCall, fullestCall, startCall, Call, toOpen, toPut, toClose, toNext, toStart, toAsk, toFullest, openFields, putFields, closeFields, nextFields, startFields, askFields, fullestFields, reply, step}
+use Rattle.rules.specs.Calls.{openCall, Taken, putBy, putCall, closeCall, askCall, fullestCall, startCall, Call, toOpen, toPut, toClose, toNext, toStart, toAsk, toFullest, openFields, putFields, closeFields, nextFields, startFields, askFields, fullestFields, reply, step}
 use Rattle.rules.specs.Facts.{Edition, Sound}
 use Rattle.rules.proofs.Cases.{by-answer, after-under, only-next}
 use Rattle.rules.proofs.Accepted.{start-taken}
+use Rattle.rules.proofs.Choosing.{rowsOrder}
 use Rattle.rules.proofs.Frames.{OpenLeaves, open-leaves, PutLeaves, put-leaves, CloseLeaves, close-leaves, ask-leaves, fullest-leaves}
 use Rattle.promises.specs.Moments.{isNext}
 use Rattle.promises.specs.Rounds.{Waiting, counted}
@@ -110,3 +112,46 @@ module _ {s : State} (S : Sound s) where
   other-call (toStart e) n = rw (after-under startFields s (startCall e s)) (start-other e)
   other-call (toAsk j t) n = still (after-under askFields s (askCall j t s) ∙ ask-leaves j t s)
   other-call toFullest n = still (after-under fullestFields s (fullestCall s) ∙ fullest-leaves s)
+
+-- ---- the rows and the order: they stay, or a slot joins and the order is at least the rows', or a Start leaves no row
+
+pub data OrderLeft (s s′ : State) : Type 0 where
+  staying : s′ .rows ≡ s .rows → s′ .order ≡ s .order → OrderLeft s s′
+  joined : (j : ℕ) → s′ .rows ≡ s .rows ++ j ∷ [] → s′ .order ≡ max (s .order) (rowsOrder s′) → OrderLeft s s′
+  no-rows : (e : ℕ) → s′ ≡ fresh e → OrderLeft s s′
+
+unmoved : {s s′ : State} → s′ ≡ s → OrderLeft s s′
+unmoved e = rw e (staying refl refl)
+
+module _ {s : State} (S : Sound s) where
+  open-order : (w : ℕ) → OrderLeft s (after s (openCall w s))
+  open-order w =
+      by-answer (OrderLeft s) s (openCall w s) (unmoved refl)
+      (λ d e. let L : OpenLeaves w s d = open-leaves S e in staying (L .around .rows) (L .around .order))
+
+  put-order : (j t n r : ℕ) → OrderLeft s (after s (putCall j t n r s))
+  put-order j t n r =
+      by-answer (OrderLeft s) s (putCall j t n r s) (unmoved refl)
+      (λ d e. let L : PutLeaves j t n r s d = put-leaves S e in go d (at (s .channels) j .waiting) (L .taken .state))
+    where
+      go : (d : Done Taken) (rs : List Record) → d .state ≡ putBy rs s j (record { length = n; reference = r }) (at (s .channels) j) → OrderLeft s (d .state)
+      go d [] g = joined j (rw g refl) (rw g refl)
+      go d (h ∷ rest) g = staying (rw g refl) (rw g refl)
+
+  close-order : (j t : ℕ) → OrderLeft s (after s (closeCall j t s))
+  close-order j t =
+      by-answer (OrderLeft s) s (closeCall j t s) (unmoved refl)
+      (λ d e. let L : CloseLeaves j t s d = close-leaves S e in staying (L .around .rows) (L .around .order))
+
+  start-order : (e : ℕ) → OrderLeft s (after s (startCall e s))
+  start-order e = by-answer (OrderLeft s) s (startCall e s) (unmoved refl) (λ d q. no-rows e (start-taken e s q .1))
+
+  pub other-order : (c : Call) → isNext c ≡ false → OrderLeft s (step s c)
+  unfolding step reply
+  other-order (toOpen w) n = rw (after-under openFields s (openCall w s)) (open-order w)
+  other-order (toPut j t k r) n = rw (after-under putFields s (putCall j t k r s)) (put-order j t k r)
+  other-order (toClose j t) n = rw (after-under closeFields s (closeCall j t s)) (close-order j t)
+  other-order toNext n = absurd (true≢false n)
+  other-order (toStart e) n = rw (after-under startFields s (startCall e s)) (start-order e)
+  other-order (toAsk j t) n = unmoved (after-under askFields s (askCall j t s) ∙ ask-leaves j t s)
+  other-order toFullest n = unmoved (after-under fullestFields s (fullestCall s) ∙ fullest-leaves s)

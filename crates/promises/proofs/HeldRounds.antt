@@ -29,27 +29,27 @@ use Rattle.promises.proofs.Promises.{part-visited, visits-answered}
 
 -- ---- what the promises ask for, as tests on states that are worked out
 
-abbrev isStart : {s : State} → Starts s ⊎ (Starts s → ⊥) → Bool
+abbrev pub isStart : {s : State} → Starts s ⊎ (Starts s → ⊥) → Bool
 isStart (inl B) = true
 isStart (inr n) = false
 
-starts-there : (s : State) → isStart (starts-or-not s) ≡ true → Starts s
+pub starts-there : (s : State) → isStart (starts-or-not s) ≡ true → Starts s
 starts-there s e = go (starts-or-not s) e
   where
     go : (d : Starts s ⊎ (Starts s → ⊥)) → isStart d ≡ true → Starts s
     go (inl B) q = B
     go (inr n) q = absurd (false≢true q)
 
-abbrev isZero : ℕ → Bool
+abbrev pub isZero : ℕ → Bool
 isZero zero = true
 isZero (suc n) = false
 
 -- no start after a send
-unfoldable inside : ℕ → State → List Moment → Bool
+unfoldable pub inside : ℕ → State → List Moment → Bool
 inside n s [] = true
 inside n s (m ∷ ms) = let later = inside (n + sentAt s m) (moved s m) ms in (isZero n || not (isStart (starts-or-not s))) && later
 
-within-there : (n : ℕ) (s : State) (ms : List Moment) → inside n s ms ≡ true → MomentsWithin n s ms
+pub within-there : (n : ℕ) (s : State) (ms : List Moment) → inside n s ms ≡ true → MomentsWithin n s ms
 unfolding inside MomentsWithin
 within-there n s [] e = tt
 within-there n s (m ∷ ms) e =

@@ -1,28 +1,35 @@
--- Demand 3, each promise once for both editions: over any part of the moments of calls, wherever in a call a round begins and ends; and over calls by what
--- their answers say, where their moments are a round. Last, in document 01's own wording, rounds that begin and end between calls and a channel that waits
--- after every call. That is edition 1's, and its edition is asked for there: in edition 2 a round can start inside a call.
+-- Demand 3 and round sheets, each promise once for both editions: over any part of the moments of calls, wherever in a call a round begins and ends; and over
+-- calls by what their answers say, where their moments are a round. Then, in document 01's own wording, rounds that begin and end between calls and a channel
+-- that waits after every call. That is edition 1's, and its edition is asked for there: in edition 2 a round can start inside a call. Last, sheets between calls.
 use Prim.Native.Nat.{ℕ, _+_, _*_, _^_, _≤_, _<_}
 use mathlib.Core.Path.{_≡_, subst}
-use mathlib.Core.Bool.{false}
+use mathlib.Core.Bool.{true, false}
 use mathlib.Core.List.{List, _++_}
 use mathlib.Core.Logic.{_⊎_, inl, inr}
 use native.Mathlib.Omega.{arith}
 use Rattle.spread.specs.Distance.{Near}
 use Rattle.rules.specs.Numbers.{granted, restLimit}
-use Rattle.rules.specs.State.{State, at, held}
-use Rattle.rules.specs.Calls.{Call, AllInRange}
-use Rattle.rules.specs.Facts.{afterGrant, SoundTo, Sound}
-use Rattle.rules.proofs.Choosing.{sound-wider}
+use Rattle.rules.specs.State.{State, fresh, at, held}
+use Rattle.rules.specs.Calls.{Call, run, AllInRange}
+use Rattle.rules.specs.Facts.{Edition, afterGrant, SoundTo, Sound}
+use Rattle.rules.proofs.Choosing.{rowsOrder, sound-wider}
+use Rattle.rules.proofs.Kept.{reached-sound}
+use Rattle.promises.specs.Histories.{along}
 use Rattle.promises.specs.Moments.{Moment, movedBy, momentsAlong, sentAt, visitsAt, costAt, momentsTotal}
 use Rattle.promises.specs.Rounds.{Starts, Waiting, Waits, MomentsBefore, MomentsThroughout, Steady, MomentsWithin, MomentsRound, perPosition, oneSent, visitsOf, costOf, total, Throughout, WithinRound, Round}
+use Rattle.promises.specs.Sheets.{visitedBy, visited, RowsAre, OnSheet}
 use Rattle.promises.proofs.Lawful.{Lawful, moved-by-kept, lawful-first, lawful-rest}
 use Rattle.promises.proofs.Made.{moments-along}
 use Rattle.promises.proofs.Counts.{sends-same, visits-same, costs-same, calls-total}
 use Rattle.promises.proofs.Rounds.{moments-visited, moments-near, moments-cost}
 use Rattle.promises.proofs.Ends.{moments-end}
 use Rattle.promises.proofs.EveryMoment.{calls-wait}
-use Rattle.promises.proofs.BetweenCalls.{calls-order, calls-within, calls-round, waits-order, waits-steady}
+use Rattle.promises.proofs.BetweenCalls.{along-round, calls-order, calls-within, calls-round, waits-order, waits-steady}
 use Rattle.promises.proofs.Reached.{calls-or-round, moments-reached}
+use Rattle.promises.proofs.RowsStay.{calls-rows, RowsOwn, calls-own}
+use Rattle.promises.proofs.VisitsAnswered.{calls-visited}
+use Rattle.promises.proofs.Sheets.{visits-sheet}
+use Rattle.promises.proofs.OwnOrder.{own-order, start-own}
 
 -- ---- over a part of the moments of calls, in both editions
 
@@ -66,6 +73,10 @@ module _ (s : State) (cs : List Call) (S : Sound s) (f : AllInRange cs) (xs ms y
       → perPosition * 2 ^ k < momentsTotal sentAt from ms → (first : List Moment) × (others : List Moment) × (ms ≡ first ++ others) × MomentsRound from first
   part-reached k o B l = moments-reached k from ms sound-from part o B l
 
+  -- "the visits of one round with every row always waiting" (02 §9): in a round in which the rows stay they are those of the sheet, in its order
+  pub part-sheet : MomentsRound from ms → MomentsThroughout (RowsAre (from .rows)) from ms → OnSheet from (visitedBy from ms)
+  part-sheet R st = visits-sheet from ms sound-from part R st
+
 -- ---- over calls by what their answers say, in both editions
 
 module _ (s : State) (cs : List Call) (S : Sound s) (f : AllInRange cs) where
@@ -91,6 +102,12 @@ module _ (s : State) (cs : List Call) (S : Sound s) (f : AllInRange cs) where
       → total oneSent s cs ≤ perPosition * 2 ^ k
   sends-answered k o inside =
       rw (← calls-total sends-same cs s f S) (moments-end k s (momentsAlong s cs) (sound-wider S) (moments-along cs f S .lawful) o inside)
+
+  -- the slots that the answers name with the start mark, in order; the rows are asked for at the start and after every call
+  pub sheet-answered : MomentsRound s (momentsAlong s cs) → Throughout (RowsAre (s .rows)) s cs → OnSheet s (along visited s cs)
+  sheet-answered R st =
+      subst (OnSheet s) (calls-visited cs s f S)
+      (visits-sheet s (momentsAlong s cs) (sound-wider S) (moments-along cs f S .lawful) R (calls-rows (s .rows) cs f S st))
 
   -- a channel that waits after every call waits at every moment
   pub waits-at-moments : (i : ℕ) → Throughout (Waiting i) s cs → MomentsThroughout (Waiting i) s (momentsAlong s cs)
@@ -130,3 +147,19 @@ round-reached k s cs S f g o B l = go (calls-or-round s cs B)
         → (first : List Call) × (others : List Call) × (cs ≡ first ++ others) × Round s first
     go (inl w) = let m = round-ends k s cs S f g o w in absurd (omega arith)
     go (inr r) = r
+
+-- ---- round sheets between calls, in both editions
+
+-- In edition 2 the order is asked to be the rows' own, as it is at every start that a history reaches. (A sound state may hold it above them at a start. The
+-- sheet is the same then, but the Next behind the round's last visit goes on, through its end, into the next round: no start is between the two calls.)
+pub sheet-between-calls : (s : State) (cs : List Call) → Sound s → AllInRange cs → (held s ≡ true → s .order ≡ rowsOrder s) → Round s cs
+    → Throughout (RowsAre (s .rows)) s cs → OnSheet s (along visited s cs)
+sheet-between-calls s cs S f o R st =
+    let own = calls-own (s .rows) cs f S (R .starts .rows) st (own-order S o) in
+    sheet-answered s cs S f (along-round (RowsOwn (s .rows)) (λ r T p e. p .1) s cs S f own R) st
+
+-- from Start on nothing is asked of the order
+pub sheet-in-history : (e : ℕ) → Edition e → (before cs : List Call) → AllInRange before → AllInRange cs → Round (run (fresh e) before) cs
+    → Throughout (RowsAre (run (fresh e) before .rows)) (run (fresh e) before) cs → OnSheet (run (fresh e) before) (along visited (run (fresh e) before) cs)
+sheet-in-history e E before cs f g R st =
+    sheet-between-calls (run (fresh e) before) cs (reached-sound e E before f) g (start-own e E before f (R .starts)) R st

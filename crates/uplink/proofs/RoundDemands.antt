@@ -1,7 +1,7 @@
--- Demand 3 over calls on one lent memory, from any sound one: each promise once for both editions, over any part of the moments of the calls and by what their
--- answers say. Then in document 01's own wording, which is edition 1's. That calls are in range says that a reference is a 32-bit number.
+-- Demand 3 and round sheets over calls on one lent memory, from any sound one: each promise once for both editions, over any part of the moments of the calls
+-- and by what their answers say. Then in document 01's own wording, which is edition 1's. That calls are in range says that a reference is a 32-bit number.
 use Prim.Native.Nat.{ℕ, _+_, _*_, _^_, _≤_, _<_}
-use mathlib.Core.Path.{_≡_, refl, sym, ap, _∙_}
+use mathlib.Core.Path.{_≡_, refl, sym, ap, _∙_, subst}
 use mathlib.Core.Bool.{true, false}
 use mathlib.Core.List.{List, [], _∷_, _++_}
 use mathlib.Core.Option.{some}
@@ -10,39 +10,45 @@ use Rattle.spread.specs.Distance.{Near}
 use Rattle.answers.proofs.Answers.{refused-given, given-inj, nine-unused}
 use Rattle.lists.specs.Tests.{isEmpty}
 use Rattle.rules.specs.Numbers.{granted, restLimit}
-use Rattle.rules.specs.State.{State, at}
+use Rattle.rules.specs.State.{State, fresh, at, held}
 use Rattle.rules.specs.Reply.{Reply}
 use Rattle.rules.specs.Next.{Sent, Chosen, termsMost, chooseBy, nextCall}
-use Rattle.rules.specs.Calls.{Call, AllInRange}
-use Rattle.rules.specs.Facts.{Sound}
-use Rattle.rules.proofs.Choosing.{row-found}
+use Rattle.rules.specs.Calls.{Call, run, AllInRange}
+use Rattle.rules.specs.Facts.{Edition, Sound}
+use Rattle.rules.proofs.Choosing.{rowsOrder, row-found}
 use Rattle.rules.proofs.NextFrame.{next-terms}
 use Rattle.memory.specs.Reading.{stateOf}
-use Rattle.memory.specs.Memory.{soundBytes, Left, replied, on}
+use Rattle.memory.specs.Memory.{soundBytes, freshMemory, Left, replied, on}
 use Rattle.memory.proofs.OneMemory.{memory-sound}
 use Rattle.memory.proofs.OnLaws.{on-memory}
+use Rattle.memory.proofs.Fresh.{fresh-memory-sound, fresh-memory-state}
 use Rattle.promises.specs.Moments.{Moment, movedBy, sentAt, visitsAt, costAt, momentsTotal}
 use Rattle.promises.specs.Rounds.{Starts, Waiting, Waits, MomentsBefore, MomentsThroughout, Steady, MomentsWithin, MomentsRound, perPosition, oneSent, visitsOf, costOf}
+use Rattle.promises.specs.Sheets.{visited, visitedBy, RowsAre, OnSheet}
 use Rattle.promises.proofs.Made.{moments-along}
+use Rattle.promises.proofs.OwnOrder.{start-own}
 use Rattle.promises.proofs.Promises.{
   part-visited,
   part-cost,
   part-near,
   part-ends,
   part-reached,
+  part-sheet,
   visits-answered,
   cost-answered,
   near-answered,
+  sheet-answered,
   waits-at-moments,
   visited-by-weight,
   cost-by-weight,
   two-channels-near,
   round-ends,
   round-reached,
+  sheet-between-calls,
 }
-use Rattle.uplink.specs.Lent.{answerOn, numberOn, runOn, totalOn, momentsOn, heldOn, orderOn, weightOn, ThroughoutOn, WithinOn, RoundOn}
-use Rattle.uplink.proofs.Runs.{run-state}
-use Rattle.uplink.proofs.Observed.{total-on, throughout-on, within-on, round-on, on-round}
+use Rattle.uplink.specs.Lent.{answerOn, numberOn, runOn, alongOn, totalOn, momentsOn, heldOn, orderOn, weightOn, ThroughoutOn, WithinOn, RoundOn}
+use Rattle.uplink.proofs.Runs.{sound-on, run-state}
+use Rattle.uplink.proofs.Observed.{along-on, total-on, throughout-on, within-on, round-on, on-round}
 
 -- ---- over a part of the moments of calls, in both editions
 
@@ -77,6 +83,10 @@ module _ (b : List ℕ) (cs : List Call) (e : soundBytes b ≡ true) (f : AllInR
       → perPosition * 2 ^ k < momentsTotal sentAt from ms → (first : List Moment) × (others : List Moment) × (ms ≡ first ++ others) × MomentsRound from first
   part-reached-on = part-reached (stateOf b) cs S f xs ms ys split
 
+  -- "the visits of one round with every row always waiting" (02 §9) are those of the sheet, in its order
+  pub part-sheet-on : MomentsRound from ms → MomentsThroughout (RowsAre (from .rows)) from ms → OnSheet from (visitedBy from ms)
+  part-sheet-on = part-sheet (stateOf b) cs S f xs ms ys split
+
 -- ---- over calls by what their answers say, in both editions
 
 module _ (b : List ℕ) (cs : List Call) (e : soundBytes b ≡ true) (f : AllInRange cs) where
@@ -101,6 +111,12 @@ module _ (b : List ℕ) (cs : List Call) (e : soundBytes b ≡ true) (f : AllInR
       → Near (orderOn b) (weightOn i b) (totalOn (visitsOf i) b cs) (weightOn j b) (totalOn (visitsOf j) b cs)
   near-answered-on i j B inside st₁ st₂ =
       rw (total-on (visitsOf i) b cs f e, total-on (visitsOf j) b cs f e) (near-answered (stateOf b) cs here f i j B inside st₁ st₂)
+
+  -- the slots that the answers name with the start mark, in order
+  pub sheet-answered-on : MomentsRound (stateOf b) (momentsOn b cs) → ThroughoutOn (RowsAre (stateOf b .rows)) b cs → OnSheet (stateOf b) (alongOn visited b cs)
+  sheet-answered-on R st =
+      subst (OnSheet (stateOf b)) (sym (along-on visited b cs f e))
+      (sheet-answered (stateOf b) cs here f R (throughout-on (RowsAre (stateOf b .rows)) b cs f e st))
 
   -- "has a record waiting at the start and after every call": then at every moment
   pub waits-at-moments-on : (i : ℕ) → ThroughoutOn (Waiting i) b cs → MomentsThroughout (Waiting i) (stateOf b) (momentsOn b cs)
@@ -171,3 +187,26 @@ round-reached-on k b cs e f g o B l =
     let (first, others, split, R) =
     round-reached k (stateOf b) cs (memory-sound b e .state) f g (throughout-on (λ s. s .order ≡ k) b cs f e o) B (rw (total-on oneSent b cs f e) at l) in
     (first, others, split, on-round b first (first-in-range first others (rw split at f)) e R)
+
+-- ---- round sheets between calls, in both editions
+
+-- in edition 2 the order is asked to be the rows' own
+pub sheet-between-calls-on : (b : List ℕ) (cs : List Call) → soundBytes b ≡ true → AllInRange cs → (heldOn b ≡ true → orderOn b ≡ rowsOrder (stateOf b))
+    → RoundOn b cs → ThroughoutOn (RowsAre (stateOf b .rows)) b cs → OnSheet (stateOf b) (alongOn visited b cs)
+sheet-between-calls-on b cs e f o R st =
+    subst (OnSheet (stateOf b)) (sym (along-on visited b cs f e))
+    (sheet-between-calls (stateOf b) cs (memory-sound b e .state) f o (round-on b cs f e R) (throughout-on (RowsAre (stateOf b .rows)) b cs f e st))
+
+-- from the memory that Start writes nothing is asked of the order
+pub sheet-in-history-on : (e : ℕ) → Edition e → (before cs : List Call) → AllInRange before → AllInRange cs → RoundOn (runOn (freshMemory e) before) cs
+    → ThroughoutOn (RowsAre (stateOf (runOn (freshMemory e) before) .rows)) (runOn (freshMemory e) before) cs
+    → OnSheet (stateOf (runOn (freshMemory e) before)) (alongOn visited (runOn (freshMemory e) before) cs)
+sheet-in-history-on e E before cs f g R st =
+    let b = runOn (freshMemory e) before in
+    let now : stateOf b ≡ run (fresh e) before =
+    run-state (freshMemory e) before f (fresh-memory-sound e E) ∙ ap (λ (s : State). run s before) (fresh-memory-state e E)
+    in
+    let own : heldOn b ≡ true → orderOn b ≡ rowsOrder (stateOf b) =
+    subst (λ (s : State). Starts s → held s ≡ true → s .order ≡ rowsOrder s) (sym now) (start-own e E before f) (R .starts)
+    in
+    sheet-between-calls-on b cs (sound-on (freshMemory e) before f (fresh-memory-sound e E)) g own R st
