@@ -15,7 +15,7 @@ const CALLS: [(&str, &[&str]); 12] = [
     ("uplink/src/filling.rt", &["fullest"]),
     ("spread/src/lib.rt", &["term", "lead"]),
     ("image/src/writer.rt", &["park"]),
-    ("image/src/reader.rt", &["unpark"]),
+    ("reader/src/reader.rt", &["unpark"]),
     ("sheet/src/lib.rt", &["check"]),
     ("support/src/lib.rt", &["plain_put", "plain_next"]),
     (

@@ -9,8 +9,8 @@ use fields::give;
 use fields::refuse;
 use fields::wrong_length;
 use image::ParkAnswer;
-use image::UnparkAnswer;
 use octets::low_first::write_u64;
+use reader::UnparkAnswer;
 use records::sent;
 use records::taken;
 use sheet::SheetAnswer;
@@ -191,7 +191,7 @@ pub extern "C" fn uplink_park(state: &mut [u8], image: &mut [u8], answer: &mut [
 pub extern "C" fn uplink_unpark(state: &mut [u8], image: &[u8]) -> u32
     ensures { λ r. ⌜ entry r (now (state .exit)) [] ≡ entered 0 startBytes (readOn (now (image .entry)) (now (state .entry))) (now (state .entry)) [] ⌝ }
 {
-    match image::reader::unpark(state, image) {
+    match reader::reader::unpark(state, image) {
         UnparkAnswer::Read => 0,
         UnparkAnswer::Refused(why) => number_of(why),
     }

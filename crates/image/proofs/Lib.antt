@@ -6,14 +6,6 @@ pub mod Longest
 pub mod LaidLaws
 pub mod EntryLaws
 pub mod HeadLaws
-pub mod NotesLaws
 pub mod Examples
 pub mod Promises
-pub mod TakingLaws
-pub mod RunEnd
-pub mod RecordsDecode
-pub mod SlotDecode
-pub mod SlotsDecode
-pub mod StateDecode
-pub mod ReaderLaws
 pub mod NoSecond

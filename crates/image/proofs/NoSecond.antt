@@ -1,35 +1,19 @@
--- An answer of the code is told from each other one by what it says, so the contracts leave room for no second answer, buffer or memory.
+-- An answer of the code is told from each other one by what it says, so the contract leaves room for no second answer, buffer or memory.
 use Prim.Native.Nat.{ℕ}
-use mathlib.Core.Path.{_≡_, refl, sym, ap, _∙_}
+use mathlib.Core.Path.{_≡_, sym, ap, _∙_}
 use mathlib.Core.List.{List}
-use Rattle.answers.specs.Answer.{Answer}
 use Rattle.answers.proofs.Answers.{refused-given, given-inj}
 use Rattle.answers.proofs.NoSecond.{refused-once}
-use Rattle.memory.specs.Memory.{Left}
-use Rattle.image.specs.Parked.{leaving, Parked, parking, parkOn, readOn}
-use Rattle.image.specs.Told.{parkTold, unparkTold}
+use Rattle.image.specs.Parked.{Parked, parking, parkOn}
+use Rattle.image.specs.Told.{parkTold}
 use Rattle.image.specs.declared.ParkAnswer.{ParkAnswer}
 use Rattle.image.specs.declared.ParkAnswer.the-variants as park
-use Rattle.image.specs.declared.UnparkAnswer.{UnparkAnswer}
-use Rattle.image.specs.declared.UnparkAnswer.the-variants as unpark
 
 pub park-told-once : (a b : ParkAnswer) → parkTold a ≡ parkTold b → a ≡ b
 park-told-once (park.Parked n) (park.Parked m) e = ap park.Parked (given-inj e)
 park-told-once (park.Parked n) (park.Refused q) e = absurd (refused-given (sym e))
 park-told-once (park.Refused p) (park.Parked m) e = absurd (refused-given e)
 park-told-once (park.Refused p) (park.Refused q) e = ap park.Refused (refused-once p q e)
-
-pub unpark-told-once : (a b : UnparkAnswer) → unparkTold a ≡ unparkTold b → a ≡ b
-unpark-told-once unpark.Read unpark.Read e = refl
-unpark-told-once unpark.Read (unpark.Refused q) e = absurd (refused-given (sym e))
-unpark-told-once (unpark.Refused p) unpark.Read e = absurd (refused-given e)
-unpark-told-once (unpark.Refused p) (unpark.Refused q) e = ap unpark.Refused (refused-once p q e)
-
-module _ {A R : Type 0} (told : R → Answer A) (once : (a b : R) → told a ≡ told b → a ≡ b) where
-  left-once : (x : Left A) (a b : R) (m n : List ℕ) → leaving (told a) m ≡ x → leaving (told b) n ≡ x → (a ≡ b) × (m ≡ n)
-  left-once x a b m n e q =
-      let same = e ∙ sym q in
-      (once a b (ap (λ (l : Left A). l .answer) same), ap (λ (l : Left A). l .bytes) same)
 
 pub park-once : (v : ℕ) (state image : List ℕ) (a b : ParkAnswer) (m n k l : List ℕ) → parking (parkTold a) m k ≡ parkOn v state image
     → parking (parkTold b) n l ≡ parkOn v state image → (a ≡ b) × (m ≡ n) × (k ≡ l)
@@ -39,7 +23,3 @@ park-once v state image a b m n k l e q =
       ap (λ (x : Parked). x .state) same,
       ap (λ (x : Parked). x .image) same,
     )
-
-pub unpark-once : (image state : List ℕ) (a b : UnparkAnswer) (m n : List ℕ) → leaving (unparkTold a) m ≡ readOn image state
-    → leaving (unparkTold b) n ≡ readOn image state → (a ≡ b) × (m ≡ n)
-unpark-once image state = left-once unparkTold unpark-told-once (readOn image state)

@@ -1,0 +1,9 @@
+pub mod TakingLaws
+pub mod RunEnd
+pub mod RecordsDecode
+pub mod SlotDecode
+pub mod SlotsDecode
+pub mod StateDecode
+pub mod NotesLaws
+pub mod ReaderLaws
+pub mod NoSecond

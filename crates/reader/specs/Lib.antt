@@ -1,0 +1,3 @@
+pub mod Decoding
+pub mod Received
+pub mod Told
