@@ -64,9 +64,9 @@ send-balanced {s} S i j h rest v w on =
     record { weight = rw same refl; deficit = rw (same, ne-eqb i j n) (omega arith) })
 
 -- another call
-call-balanced : {s : State} (i : ℕ) (c : Call) → Waiting i s → Waiting i (step s c) → OtherCall s (step s c) → Balanced i s (step s c) 0 0
-call-balanced i c h g (quiet edition scan alone) = let a = alone i h in record { weight = a .weight; deficit = omega (arith, a .deficit) }
-call-balanced i c h g (afresh e E q) = absurd (fresh-idle e E i (rw q at g))
+call-balanced : {s : State} (i : ℕ) (c : Call) → Waiting i s → Waiting i (step s c) → OtherCall s c (step s c) → Balanced i s (step s c) 0 0
+call-balanced i c h g (quiet edition scan risen alone) = let a = alone i h in record { weight = a .weight; deficit = omega (arith, a .deficit) }
+call-balanced i c h g (afresh e E r q) = absurd (fresh-idle e E i (rw q at g))
 
 pub moment-balanced : (m : Moment) {s : State} → Can s m → SoundTo afterGrant s → (i : ℕ) → Waiting i s → Waiting i (moved s m)
     → Balanced i s (moved s m) (visitsAt i s m) (costAt i s m)

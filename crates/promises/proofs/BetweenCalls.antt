@@ -49,9 +49,9 @@ made-edition S (serving e N C E) =
     ∙ settled-edition (N .rest) (x .state) (x .slot) _ ∙ N .choice .edition)
 made-edition {s} S (other {c} n) = go (other-call S c n)
   where
-    go : OtherCall s (step s c) → (step s c .edition ≡ s .edition) ⊎ (step s c .order ≡ 0)
-    go (quiet ed sc alone) = inl ed
-    go (afresh e E q) = inr (rw q refl)
+    go : OtherCall s c (step s c) → (step s c .edition ≡ s .edition) ⊎ (step s c .order ≡ 0)
+    go (quiet ed sc up alone) = inl ed
+    go (afresh e E r q) = inr (rw q refl)
 
 -- the order is k, and with rows it is edition 1
 record Falls (k : ℕ) (s : State) : Type 0 where

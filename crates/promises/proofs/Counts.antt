@@ -18,7 +18,7 @@ use Rattle.promises.proofs.EachCall.{counted-given, counted-refused, co
 use Rattle.promises.proofs.NextMoments.{EndedBy, going-on, round-end, ScannedBy, first-visit, term-first, last-term, ChosenBy, in-visit, by-scan}
 use Rattle.promises.proofs.Made.{chosen-leads, Made, unserved, serving, other, made, moments-lead}
 
-total-append : (f : State → Moment → ℕ) (xs ys : List Moment) (s : State)
+pub total-append : (f : State → Moment → ℕ) (xs ys : List Moment) (s : State)
     → momentsTotal f s (xs ++ ys) ≡ momentsTotal f s xs + momentsTotal f (movedBy s xs) ys
 unfolding momentsTotal movedBy
 total-append f [] ys s = omega arith

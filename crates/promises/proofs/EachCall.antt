@@ -1,13 +1,17 @@
--- What a call is to a round: Next, or a call that sends nothing and leaves the edition, the scan point, and the weight and deficit of each slot that waits,
--- alone, or a Start that is taken. Of the files on rounds this is the one that goes by which call it is.
-use Prim.Native.Nat.{ℕ, max}
-use mathlib.Core.Path.{_≡_, refl, sym, _∙_}
-use mathlib.Core.Bool.{true, false, true≢false, false≢true}
+-- What a call is to a round: Next, or a call that sends nothing, leaves the edition, the scan point, and the weight and deficit of each slot that waits, alone,
+-- and lowers no order, or a Start that is taken. Of the files on rounds this is the one that goes by which call it is.
+use Prim.Native.Nat.{ℕ, max, _≤_}
+use mathlib.Core.Path.{_≡_, refl, sym, _∙_, ap}
+use mathlib.Core.Bool.{true, false, true≢false, false≢true, not}
 use mathlib.Core.List.{List, [], _∷_, _++_}
+use native.Mathlib.Nat.{le-refl}
 use native.Mathlib.Omega.{arith}
 use Rattle.lists.specs.Slots.{occurs}
+use Rattle.lists.specs.Tests.{isEmpty}
 use Rattle.lists.proofs.SlotsLaws.{if-eq}
 use Rattle.answers.specs.Answer.{Refusal, refused, given}
+use Rattle.spread.proofs.Limits.{not-outside}
+use Rattle.rules.specs.Numbers.{falling, holding}
 use Rattle.rules.specs.State.{Record, State, fresh, at}
 use Rattle.rules.specs.Reply.{Done, after}
 use Rattle.rules.specs.Next.{Sent, nextCall}
@@ -17,6 +21,7 @@ use Rattle.rules.proofs.Cases.{by-answer, after-under, only-next}
 use Rattle.rules.proofs.Accepted.{start-taken}
 use Rattle.rules.proofs.Choosing.{rowsOrder}
 use Rattle.rules.proofs.Frames.{OpenLeaves, open-leaves, PutLeaves, put-leaves, CloseLeaves, close-leaves, ask-leaves, fullest-leaves}
+use Rattle.promises.specs.Histories.{restarts}
 use Rattle.promises.specs.Moments.{isNext}
 use Rattle.promises.specs.Rounds.{Waiting, counted}
 use Rattle.promises.proofs.Waiting.{waits-row}
@@ -49,61 +54,69 @@ counted-refused f s e = rw e refl
 pub counted-other : (f : Sent → ℕ) (s : State) (c : Call) → isNext c ≡ false → counted f s c ≡ 0
 counted-other f s c e = only-next 0 f c s e
 
--- what a round looks at of slot i is the same
+-- what a round looks at of slot i, which waits, is the same
 pub record Alone (i : ℕ) (s s′ : State) : Type 0 where
   pub weight : at (s′ .channels) i .weight ≡ at (s .channels) i .weight
   pub deficit : at (s′ .channels) i .deficit ≡ at (s .channels) i .deficit
+  pub waits : Waiting i s′
 
-pub data OtherCall (s s′ : State) : Type 0 where
-  quiet : s′ .edition ≡ s .edition → s′ .scan ≡ s .scan → ((i : ℕ) → Waiting i s → Alone i s s′) → OtherCall s s′
-  afresh : (e : ℕ) → Edition e → s′ ≡ fresh e → OtherCall s s′
+pub data OtherCall (s : State) (c : Call) (s′ : State) : Type 0 where
+  quiet : s′ .edition ≡ s .edition → s′ .scan ≡ s .scan → s .order ≤ s′ .order → ((i : ℕ) → Waiting i s → Alone i s s′) → OtherCall s c s′
+  afresh : (e : ℕ) → Edition e → restarts c ≡ true → s′ ≡ fresh e → OtherCall s c s′
 
-alone-refl : (i : ℕ) (s : State) → Alone i s s
-alone-refl i s = record { weight = refl; deficit = refl }
+added : (rs : List Record) (r : Record) → isEmpty (rs ++ r ∷ []) ≡ false
+added [] r = refl
+added (h ∷ rs) r = refl
 
-alone-same : {i : ℕ} {s s′ : State} → at (s′ .channels) i ≡ at (s .channels) i → Alone i s s′
-alone-same e = record { weight = rw e refl; deficit = rw e refl }
+alone-same : {i : ℕ} {s s′ : State} → Waiting i s → at (s′ .channels) i ≡ at (s .channels) i → Alone i s s′
+alone-same h e = record { weight = rw e refl; deficit = rw e refl; waits = rw e h }
 
-still : {s s′ : State} → s′ ≡ s → OtherCall s s′
-still {s} e = rw e (quiet refl refl (λ i h. alone-refl i s))
+still : {s s′ : State} {c : Call} → s′ ≡ s → OtherCall s c s′
+still {s} e = rw e (quiet refl refl (le-refl _) (λ i h. alone-same h refl))
 
 module _ {s : State} (S : Sound s) where
   -- Open takes a slot that is no row
-  open-other : (w : ℕ) → OtherCall s (after s (openCall w s))
+  open-other : (w : ℕ) → OtherCall s (toOpen w) (after s (openCall w s))
   open-other w =
-      by-answer (OtherCall s) s (openCall w s) (still refl)
+      by-answer (OtherCall s (toOpen w)) s (openCall w s) (still refl)
       (λ d e.
       let L : OpenLeaves w s d = open-leaves S e in
-      quiet (L .around .edition) (L .around .scan)
+      quiet (L .around .edition) (L .around .scan) (omega (arith, L .around .order))
       (λ i h.
       let m : occurs i (s .rows) ≡ 1 = waits-row S i h in
-      alone-same (L .others i (λ q. let z : occurs i (s .rows) ≡ 0 = rw q (L .no-row) in omega arith))))
+      alone-same h (L .others i (λ q. let z : occurs i (s .rows) ≡ 0 = rw q (L .no-row) in omega arith))))
 
   -- Put and Close leave the weight and the deficit of a slot that waits
-  put-other : (j t n r : ℕ) → OtherCall s (after s (putCall j t n r s))
+  put-other : (j t n r : ℕ) → OtherCall s (toPut j t n r) (after s (putCall j t n r s))
   put-other j t n r =
-      by-answer (OtherCall s) s (putCall j t n r s) (still refl)
+      by-answer (OtherCall s (toPut j t n r)) s (putCall j t n r s) (still refl)
       (λ d e.
       let L : PutLeaves j t n r s d = put-leaves S e in
-      quiet (L .edition) (L .scan)
-      (λ i h. if-eq i j (λ q. rw q (record { weight = rw (L .own) refl; deficit = rw (L .own) refl })) (λ m. alone-same (L .others i m))))
-
-  close-other : (j t : ℕ) → OtherCall s (after s (closeCall j t s))
-  close-other j t =
-      by-answer (OtherCall s) s (closeCall j t s) (still refl)
-      (λ d e.
-      let L : CloseLeaves j t s d = close-leaves S e in
-      quiet (L .around .edition) (L .around .scan)
+      quiet (L .edition) (L .scan) (L .risen)
       (λ i h.
       if-eq i j
-      (λ q. let g = L .drains (rw (sym q) h) .1 in rw q (record { weight = rw g refl; deficit = rw g refl }))
-      (λ m. alone-same (L .others i m))))
+      (λ q.
+      let more = added (at (s .channels) j .waiting) (record { length = n; reference = r }) in
+      rw q (record { weight = rw (L .own) refl; deficit = rw (L .own) refl; waits = rw (L .own) more }))
+      (λ m. alone-same h (L .others i m))))
 
-  start-other : (e : ℕ) → OtherCall s (after s (startCall e s))
+  close-other : (j t : ℕ) → OtherCall s (toClose j t) (after s (closeCall j t s))
+  close-other j t =
+      by-answer (OtherCall s (toClose j t)) s (closeCall j t s) (still refl)
+      (λ d e.
+      let L : CloseLeaves j t s d = close-leaves S e in
+      quiet (L .around .edition) (L .around .scan) (omega (arith, L .around .order))
+      (λ i h.
+      if-eq i j
+      (λ q. let g = L .drains (rw (sym q) h) .1 in rw q (record { weight = rw g refl; deficit = rw g refl; waits = rw (g, ← q) h }))
+      (λ m. alone-same h (L .others i m))))
+
+  start-other : (e : ℕ) → OtherCall s (toStart e) (after s (startCall e s))
   start-other e =
-      by-answer (OtherCall s) s (startCall e s) (still refl) (λ d q. let T = start-taken e s q in afresh e (T .0) (T .1))
+      by-answer (OtherCall s (toStart e)) s (startCall e s) (still refl)
+      (λ d q. let T = start-taken e s q in afresh e (T .0) (ap not (not-outside falling holding e (T .0 .0) (T .0 .1))) (T .1))
 
-  pub other-call : (c : Call) → isNext c ≡ false → OtherCall s (step s c)
+  pub other-call : (c : Call) → isNext c ≡ false → OtherCall s c (step s c)
   unfolding step reply
   other-call (toOpen w) n = rw (after-under openFields s (openCall w s)) (open-other w)
   other-call (toPut j t k r) n = rw (after-under putFields s (putCall j t k r s)) (put-other j t k r)

@@ -25,14 +25,36 @@ use Rattle.promises.proofs.Made.{chosen-leads, Made, unserved, serving,
 
 -- ---- lists of moments
 
+pub before-map : {P Q : State → Type 0} → ((s : State) → P s → Q s) → (ms : List Moment) (s : State) → MomentsBefore P s ms → MomentsBefore Q s ms
+unfolding MomentsBefore
+before-map g [] s a = tt
+before-map g (m ∷ ms) s a = (g s (a .0), before-map g ms (moved s m) (a .1))
+
 before-append : (P : State → Type 0) (xs ys : List Moment) (s : State) → MomentsBefore P s xs → MomentsBefore P (movedBy s xs) ys → MomentsBefore P s (xs ++ ys)
 unfolding MomentsBefore movedBy
 before-append P [] ys s a b = b
 before-append P (m ∷ xs) ys s a b = (a .0, before-append P xs ys (moved s m) (a .1) b)
 
+pub before-first : (P : State → Type 0) (xs ys : List Moment) (s : State) → MomentsBefore P s (xs ++ ys) → MomentsBefore P s xs
+unfolding MomentsBefore
+before-first P [] ys s a = tt
+before-first P (m ∷ xs) ys s a = (a .0, before-first P xs ys (moved s m) (a .1))
+
+pub before-rest : (P : State → Type 0) (xs ys : List Moment) (s : State) → MomentsBefore P s (xs ++ ys) → MomentsBefore P (movedBy s xs) ys
+unfolding MomentsBefore movedBy
+before-rest P [] ys s a = a
+before-rest P (m ∷ xs) ys s a = before-rest P xs ys (moved s m) (a .1)
+
 throughout-append : (P : State → Type 0) (xs ys : List Moment) (s : State) → MomentsBefore P s xs → MomentsThroughout P (movedBy s xs) ys
     → MomentsThroughout P s (xs ++ ys)
 throughout-append P xs ys s a b = (before-append P xs ys s a (b .0), subst P (sym (moved-append xs ys s)) (b .1))
+
+-- at the state between two parts of a list
+pub throughout-at : (P : State → Type 0) (xs ys : List Moment) (s : State) → MomentsThroughout P s (xs ++ ys) → P (movedBy s xs)
+unfolding MomentsBefore movedBy
+throughout-at P [] [] s a = a .1
+throughout-at P [] (m ∷ ys) s a = a .0 .0
+throughout-at P (m ∷ xs) ys s a = throughout-at P xs ys (moved s m) (a .0 .1, a .1)
 
 -- ---- lists of calls
 

@@ -1,6 +1,6 @@
--- Whole rounds of edition 2, worked out: one that starts and ends between calls, with weights 2 and 1, and one that starts and ends inside a single call. All
--- that the promises ask for is met, and the numbers are theirs.
-use Prim.Native.Nat.{ℕ, zero, suc, _+_, _<_}
+-- Whole rounds of edition 2, worked out: one that starts and ends between calls, with weights 2 and 1, one in which the order rises, and one that starts and ends
+-- inside a single call. All that the promises ask for is met, and the numbers are theirs.
+use Prim.Native.Nat.{ℕ, zero, suc, _+_, _≤_, _<_}
 use mathlib.Core.Path.{_≡_, refl, sym, subst}
 use mathlib.Core.Bool.{Bool, true, false, not, _&&_, _||_, false≢true}
 use mathlib.Core.List.{List, [], _∷_, _++_}
@@ -21,11 +21,12 @@ use Rattle.rules.specs.Calls.{lowest, openCall, putCall, Call, toOpen, toPut, t
 use Rattle.rules.specs.Next.{scanning, nextCall}
 use Rattle.rules.specs.Facts.{Sound}
 use Rattle.rules.proofs.Kept.{reached-sound}
-use Rattle.promises.specs.Moments.{Moment, aTerm, anEnd, aVisit, aSend, moved, movedBy, scanMoments, momentsOf, momentsAlong, sentAt, visitsAt, momentsTotal}
+use Rattle.promises.specs.Moments.{Moment, aTerm, anEnd, aVisit, aSend, aCall, moved, movedBy, scanMoments, momentsOf, momentsAlong, sentAt, visitsAt, momentsTotal}
 use Rattle.promises.specs.Rounds.{Starts, Waits, MomentsBefore, Steady, MomentsWithin, MomentsRound, visitsOf, costOf, total}
+use Rattle.promises.specs.NobodyWaits.{HeldRound}
 use Rattle.promises.proofs.Reached.{no-visit-open, either-end, at-an-end, starts-or-not}
 use Rattle.promises.proofs.OneRound.{joined, three}
-use Rattle.promises.proofs.Promises.{part-visited, visits-answered}
+use Rattle.promises.proofs.Promises.{part-visited, visits-answered, nobody-waits-answered}
 
 -- ---- what the promises ask for, as tests on states that are worked out
 
@@ -127,6 +128,56 @@ both = (promised 0 first-waits, promised 1 second-waits)
 numbers : (total (visitsOf 0) twoHeld three ≡ 2) × (total (visitsOf 1) twoHeld three ≡ 1) × (total (costOf 0) twoHeld three ≡ 2048) × (total (costOf 1) twoHeld three ≡ 1024)
 unfolding joined twoHeld three cost bit order orderIn trailing trailingIn term columnAt fresh orderOf columnOf roundOver lowest openCall putCall scanning nextCall reply step run total sharedUse
 numbers = (refl, refl, refl, refl)
+
+-- ---- a round in which the order rises: after its first send a channel of weight 4 joins. P stays at 1, so order 3 goes on at position 2, and slot 1, which
+-- order 2 would have found there, is visited at position 4
+
+unfoldable pub heavier : List Call
+heavier =
+    toNext ∷ toOpen 4 ∷ toPut 2 1 longest 6 ∷ toPut 2 1 longest 7 ∷ toPut 2 1 longest 8
+    ∷ toNext ∷ toNext ∷ toNext ∷ toNext ∷ toNext ∷ toNext ∷ []
+
+abbrev upToRise : List Moment
+upToRise = aTerm ∷ aVisit ∷ aSend ∷ aCall (toOpen 4) ∷ aCall (toPut 2 1 longest 6) ∷ []
+
+abbrev pub risenRound : List Moment
+risenRound =
+    upToRise ++ aCall (toPut 2 1 longest 7) ∷ aCall (toPut 2 1 longest 8)
+    ∷ aTerm ∷ aVisit ∷ aSend ∷ aTerm ∷ aVisit ∷ aSend ∷ aTerm ∷ aVisit ∷ aSend
+    ∷ aTerm ∷ aVisit ∷ aSend ∷ aTerm ∷ aVisit ∷ aSend ∷ aTerm ∷ aVisit ∷ aSend ∷ anEnd ∷ []
+
+risen-moments : momentsAlong twoHeld heavier ≡ risenRound
+unfolding joined twoHeld heavier cost bit order orderIn trailing trailingIn term columnAt fresh orderOf columnOf roundOver lowest openCall putCall scanning nextCall reply step run moved movedBy scanMoments momentsOf momentsAlong sharedUse
+risen-moments = refl
+
+risen : (movedBy twoHeld upToRise .order ≡ 3) × (movedBy twoHeld upToRise .scan .position ≡ 1)
+unfolding joined twoHeld cost bit order orderIn trailing trailingIn term columnAt fresh orderOf columnOf roundOver lowest openCall putCall reply step run moved movedBy sharedUse
+risen = (refl, refl)
+
+pub risen-round : HeldRound 1 twoHeld risenRound
+unfolding joined twoHeld cost bit order orderIn trailing trailingIn term columnAt fresh orderOf columnOf roundOver lowest openCall putCall reply step run moved movedBy momentsTotal no-visit-open either-end at-an-end starts-or-not inside sharedUse
+risen-round =
+    record {
+      held-there = refl;
+      waits = refl;
+      round = record {
+        starts = starts-there twoHeld refl;
+        within = within-there 0 twoHeld risenRound refl;
+        sent = omega arith;
+        ends = starts-there (movedBy twoHeld risenRound) refl;
+      };
+    }
+
+risen-promised : 1 ≤ total (visitsOf 1) twoHeld heavier
+unfolding heavier
+risen-promised =
+    nobody-waits-answered twoHeld heavier two-sound
+    (tt, (tt, (omega arith, (omega arith, (omega arith, (tt, (tt, (tt, (tt, (tt, (tt, tt))))))))))) 1 refl
+    (subst (HeldRound 1 twoHeld) (sym risen-moments) risen-round)
+
+risen-numbers : (total (visitsOf 0) twoHeld heavier ≡ 3) × (total (visitsOf 1) twoHeld heavier ≡ 1) × (total (visitsOf 2) twoHeld heavier ≡ 3)
+unfolding joined twoHeld heavier cost bit order orderIn trailing trailingIn term columnAt fresh orderOf columnOf roundOver lowest openCall putCall scanning nextCall reply step run total sharedUse
+risen-numbers = (refl, refl, refl)
 
 -- ---- a round inside one call: weights 8 and 1, slot 0 gone with its one record. The call takes seven terms that find no row, ends that round, and its next
 -- term, visit and send are the whole next one

@@ -81,10 +81,10 @@ call-own {s} {s′} same o (joined j r q) =
     omega arith
 call-own same o (no-rows e q) = rw q refl
 
-call-zero : {s : State} → Sound s → (c : Call) → OtherCall s (step s c) → OrderLeft s (step s c) → Zero s → Zero (step s c)
+call-zero : {s : State} → Sound s → (c : Call) → OtherCall s c (step s c) → OrderLeft s (step s c) → Zero s → Zero (step s c)
 unfolding fresh orderOf
-call-zero {s} S c (afresh e E q) L Z g p = rw q (record { own = refl; no-visit = refl; none-remain = refl })
-call-zero {s} S c (quiet ed sc alone) L Z g p =
+call-zero {s} S c (afresh e E started q) L Z g p = rw q (record { own = refl; no-visit = refl; none-remain = refl })
+call-zero {s} S c (quiet ed sc risen alone) L Z g p =
     let A : AtZero s = Z (rw ed at g) (rw sc at p) in
     record {
       own = call-own (λ i m. alone i (row-waits S refl i m) .weight) (A .own) L;

@@ -17,7 +17,7 @@ use Rattle.rules.proofs.Rows.{filled-row, row-weight}
 use Rattle.rules.proofs.Kept.{fresh-sound}
 use Rattle.promises.specs.Rounds.{Waiting}
 
-row-there : (i : ℕ) (rows : List ℕ) → occurs i rows ≡ 1 → isEmpty rows ≡ false
+pub row-there : (i : ℕ) (rows : List ℕ) → occurs i rows ≡ 1 → isEmpty rows ≡ false
 row-there i [] e = absurd (omega arith)
 row-there i (r ∷ rs) e = refl
 

@@ -103,11 +103,11 @@ module _ (k : ℕ) (f : ℕ → ℕ) (rs : List ℕ) (i : ℕ) (row : 1 ≤ occu
         rw (append-nil vs, g, settled-toVisit rest s j c .0, p) (W .walked)
     walked-moved (aCall c) t n v vs x (y, b, T) within o e W = rw (append-nil vs) (go t (other-call T c y) (W .walked))
       where
-        go : (t : ℕ) → OtherCall s (step s c) → vs ++ s .scan .toVisit ≡ scanned f rs k (reached t s)
+        go : (t : ℕ) → OtherCall s c (step s c) → vs ++ s .scan .toVisit ≡ scanned f rs k (reached t s)
             → vs ++ step s c .scan .toVisit ≡ scanned f rs k (reached t (step s c))
-        go t (afresh z E q) was = absurd (true≢false (ap (λ (r : State). isEmpty (r .rows)) (sym q) ∙ e))
-        go zero (quiet ed sc alone) was = rw sc was
-        go (suc t) (quiet ed sc alone) was = rw sc was
+        go t (afresh z E started q) was = absurd (true≢false (ap (λ (r : State). isEmpty (r .rows)) (sym q) ∙ e))
+        go zero (quiet ed sc risen alone) was = rw sc was
+        go (suc t) (quiet ed sc risen alone) was = rw sc was
 
     walk-moved : (m : Moment) (t n v : ℕ) (vs : List ℕ) → isEnd m ≡ false → Can s m → (0 < n → Starts s → ⊥) → RowsAre rs (moved s m) → Walk k f rs i t n v vs s
         → Walk k f rs i (turned t m) (n + sentAt s m) (v + visitsAt i s m) (vs ++ startedAt s m) (moved s m)
