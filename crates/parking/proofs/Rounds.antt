@@ -1,23 +1,25 @@
 -- Demand 3 and round sheets over acts: "No round runs across a start or a reading." A round is a part of the moments of acts of which none begins a history, so
--- those of the calls that they are seen as; and of these it is promised, in both editions.
-use Prim.Native.Nat.{ℕ, _+_, _*_, _≤_}
+-- those of the calls that they are seen as; and of these it is promised, in both editions. So is, in edition 2, that nobody waits two rounds (02 §13).
+use Prim.Native.Nat.{ℕ, _+_, _*_, _≤_, _^_}
 use mathlib.Core.Path.{_≡_, refl, sym, ap, _∙_, subst}
 use mathlib.Core.Bool.{Bool, true, false}
 use mathlib.Core.List.{List, [], _∷_, _++_}
+use Rattle.spread.specs.Limits.{columns}
 use Rattle.spread.specs.Distance.{Near}
 use Rattle.rules.specs.Numbers.{granted, restLimit}
-use Rattle.rules.specs.State.{State, at, withMark}
+use Rattle.rules.specs.State.{State, at, held, withMark}
 use Rattle.rules.specs.Calls.{AllInRange}
 use Rattle.memory.specs.Reading.{stateOf}
 use Rattle.memory.specs.Memory.{soundBytes}
-use Rattle.promises.specs.Moments.{Moment, movedBy, visitsAt, costAt, momentsTotal}
-use Rattle.promises.specs.Rounds.{Starts, Waiting, MomentsThroughout, Steady, MomentsWithin, MomentsRound}
+use Rattle.promises.specs.Moments.{Moment, movedBy, visitsAt, costAt, momentsTotal, sentAt}
+use Rattle.promises.specs.Rounds.{Starts, Waiting, MomentsThroughout, Steady, MomentsWithin, MomentsRound, perPosition}
 use Rattle.promises.specs.Sheets.{visited, visitedBy, RowsAre, OnSheet}
 use Rattle.uplink.specs.Lent.{stepOn, ThroughoutOn}
 use Rattle.uplink.proofs.Runs.{step-sound-on, run-state}
 use Rattle.uplink.proofs.Observed.{along-on}
 use Rattle.uplink.proofs.RoundDemands.{moments-lead-on, part-visited-on, part-cost-on, part-near-on, part-sheet-on, sheet-answered-on, waits-at-moments-on}
 use Rattle.parking.specs.Acts.{Act, toCall, toPark, toUnpark, runBy, alongBy, ActsInRange, NoBeginning, parkedOn, callsIn, callsBy, momentsBy}
+use Rattle.uplink.proofs.NobodyWaits.{nobody-waits-on, held-ends-on}
 use Rattle.parking.specs.Rounds.{RoundBy, ThroughoutBy}
 use Rattle.parking.proofs.ActLaws.{marked, by-parking, read-stays, no-beginning}
 use Rattle.parking.proofs.AsCalls.{as-calls, parked-acts, marked-acts, call-unparked}
@@ -46,6 +48,17 @@ module _ (b : List ℕ) (acts : List Act) (e : soundBytes b ≡ true) (f : ActsI
         → (granted * at (from .channels) i .weight ≤ momentsTotal (costAt i) from ms + restLimit)
         × (momentsTotal (costAt i) from ms ≤ granted * at (from .channels) i .weight + restLimit)
     cost-by i R st = part-cost-on b (callsBy b acts) e (in-range (R .none)) xs ms ys (R .part) i (R .round) st
+
+    -- "is visited at least once between the two, whatever calls others make and however often the order rises" (02 §13): in edition 2
+    pub nobody-waits-by : (i : ℕ) → RoundBy b acts xs ms ys → held from ≡ true → Waiting i from → 1 ≤ momentsTotal (visitsAt i) from ms
+    nobody-waits-by i R g w =
+        nobody-waits-on b (callsBy b acts) e (in-range (R .none)) xs ms ys (R .part) i (as-calls b acts e f (R .none) .no-start)
+        (record { held-there = g; waits = w; round = R .round })
+
+    -- and the next start comes
+    pub held-ends-by : NoBeginning acts → momentsBy b acts ≡ xs ++ (ms ++ ys) → held from ≡ true → MomentsWithin 0 from ms
+        → momentsTotal sentAt from ms ≤ perPosition * 2 ^ columns
+    held-ends-by n part = held-ends-on b (callsBy b acts) e (in-range n) xs ms ys part (as-calls b acts e f n .no-start)
 
     -- the bound on two channels, at every moment of a round, ended or under way
     pub near-by : (i j : ℕ) → NoBeginning acts → momentsBy b acts ≡ xs ++ (ms ++ ys) → Starts from → MomentsWithin 0 from ms → Steady (from .order) i from ms
