@@ -1,7 +1,7 @@
 /* A library that refuses every call with 10, as a true refusal would look: sanitized.c has to fail on it. */
 #include <string.h>
 
-#include "office.h"
+#include "uplink.h"
 
 #pragma GCC diagnostic ignored "-Wunused-parameter"
 
@@ -28,11 +28,6 @@ uint32_t uplink_unpark(uint8_t *s, size_t n, const uint8_t *i, size_t m)
     return UPLINK_UNSOUND;
 }
 
-uint32_t office_start(uint8_t *o, size_t n)
-{
-    return UPLINK_UNSOUND;
-}
-
 REFUSES(uplink_open, UPLINK_OPEN_LENGTH, uint8_t *s, size_t n, uint32_t w)
 REFUSES(uplink_put, UPLINK_PUT_LENGTH, uint8_t *s, size_t n, uint32_t i, uint32_t t, uint32_t l, uint32_t r)
 REFUSES(uplink_close, UPLINK_CLOSE_LENGTH, uint8_t *s, size_t n, uint32_t i, uint32_t t)
@@ -43,6 +38,3 @@ REFUSES(uplink_park, UPLINK_PARK_LENGTH, uint8_t *s, size_t n, uint8_t *i, size_
 REFUSES(uplink_lead, UPLINK_LEAD_LENGTH, uint32_t w1, uint32_t v1, uint32_t w2, uint32_t v2)
 REFUSES(uplink_term, UPLINK_TERM_LENGTH, uint32_t k, uint32_t p)
 REFUSES(uplink_sheet, UPLINK_SHEET_LENGTH, const uint32_t *w, size_t n, const uint32_t *r, size_t m)
-REFUSES(uplink_frame, UPLINK_FRAME_LENGTH, uint32_t i, uint32_t t, uint16_t s, const uint8_t *r, size_t n, uint8_t *f, size_t m)
-REFUSES(uplink_unframe, UPLINK_UNFRAME_LENGTH, const uint8_t *f, size_t n)
-REFUSES(office_take, OFFICE_TAKE_LENGTH, uint8_t *o, size_t n, const uint8_t *f, size_t m)

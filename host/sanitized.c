@@ -2,9 +2,9 @@
  * The C entries on memory that ends where nobody may touch the next byte: each call is made three times, on buffers that end at a
  * forbidden page, on buffers that begin behind one, and on buffers of just their length from malloc, and must do the same each time.
  * First comes a script whose answers are known, field by field; then calls at random in each edition, of which enough must be accepted. They begin
- * where every cell is taken. A refusal must be one that the call can give, keep the state and a lent image and write 0 to every field. Then come round
- * sheets, known and at random, in lists of just their length, and last frames and the office, of which every byte is known. Run as "sanitized [calls] [seed]";
- * host/README.md has the commands. Exits with 1 for a library that does anything else: refuses.c, keeps.c, writes.c, reads.c and peeks.c are five.
+ * where every cell is taken. A refusal must be one that the call can give, keep the state and a lent image and write 0 to every field. Last come round
+ * sheets, known and at random, in lists of just their length. Run as "sanitized [calls] [seed]"; host/README.md has the commands. Exits with 1 for a
+ * library that does anything else: refuses.c, keeps.c, writes.c and reads.c are four.
  */
 #define _DEFAULT_SOURCE
 #include <inttypes.h>
@@ -13,7 +13,7 @@
 #include <string.h>
 #include <sys/mman.h>
 
-#include "office.h"
+#include "uplink.h"
 
 enum { PAGE = 4096, SPACE = 2 * PAGE, PLACES = 3, WIDEST = 64, PAINT = 0xa5 };
 /* The cells for records, which take six bytes each, the notes behind them (two bytes a slot, a number and the slots listed), the state ahead of them, and where its
@@ -758,197 +758,6 @@ static void run_sheets(unsigned long times)
         i % 64 == 0 ? run_sheet(any_weights(&s)) : run_any_sheet(any_weights(&s));
 }
 
-/* ---- Frames and the office: a record or a frame that is only read, a frame or an office that is written, and an answer, each of just its length. */
-
-enum { HEAD = UPLINK_FRAMING, FRAME_SPACE = 2 * UPLINK_LONGEST_FRAME };
-enum lending { WRITE, READ, BEGIN, TAKE };
-
-static const char *const lendings[] = {"uplink_frame", "uplink_unframe", "office_start", "office_take"};
-static const size_t lending_answers[] = {UPLINK_FRAME_LENGTH, UPLINK_UNFRAME_LENGTH, 0, OFFICE_TAKE_LENGTH};
-
-/* A call with what is lent to it, and what it has to give: number, fields and the written buffer. */
-struct frame_call {
-    enum lending kind;
-    uint32_t slot, ticket;
-    uint16_t serial;
-    uint8_t read[FRAME_SPACE], before[FRAME_SPACE], after[FRAME_SPACE];
-    size_t read_length, written_length, answer_length;
-    uint32_t number, fields[6];
-};
-
-static uint32_t lending_made(const struct frame_call *c, const uint8_t *only_read, uint8_t *buffer, uint8_t *answer)
-{
-    switch (c->kind) {
-    case WRITE:
-        return uplink_frame(c->slot, c->ticket, c->serial, only_read, c->read_length, buffer, c->written_length, answer, c->answer_length);
-    case READ: return uplink_unframe(only_read, c->read_length, answer, c->answer_length);
-    case BEGIN: return office_start(buffer, c->written_length);
-    default: return office_take(buffer, c->written_length, only_read, c->read_length, answer, c->answer_length);
-    }
-}
-
-/* What is wrong with what a call left, or NULL. */
-static const char *lending_fault(const struct frame_call *c, uint32_t number, const uint8_t *only_read, const uint8_t *buffer, const uint8_t *answer)
-{
-    int untouched = c->answer_length != lending_answers[c->kind];
-    if (number != (untouched ? (uint32_t)UPLINK_UNSOUND : c->number))
-        return "another number";
-    if (memcmp(only_read, c->read, c->read_length) != 0)
-        return "what is only read is changed";
-    if (memcmp(buffer, untouched ? c->before : c->after, c->written_length) != 0)
-        return "another frame or office";
-    if (untouched)
-        return all_are(PAINT, answer, c->answer_length) ? NULL : "an answer of wrong length is touched";
-    for (size_t i = 0; i < c->answer_length / 4; i++)
-        if (uplink_field(answer, i) != (number == UPLINK_ACCEPTED ? c->fields[i] : 0))
-            return "another field";
-    return NULL;
-}
-
-static void lending_checked(const struct frame_call *c)
-{
-    for (int place = 0; place < PLACES; place++) {
-        uint8_t *buffer = lent(0, place, c->written_length), *answer = lent(1, place, c->answer_length), *only_read = lent(2, place, c->read_length);
-        memcpy(buffer, c->before, c->written_length);
-        memcpy(only_read, c->read, c->read_length);
-        memset(answer, PAINT, c->answer_length);
-        uint32_t number = lending_made(c, only_read, buffer, answer);
-        const char *why = lending_fault(c, number, only_read, buffer, answer);
-        if (why) {
-            printf("%s: %s of slot %" PRIu32 ", ticket %" PRIu32 ", serial %" PRIu16 ", with %zu bytes read, %zu written and %zu of answer gave %" PRIu32
-                   " at place %d\n",
-                   why, lendings[c->kind], c->slot, c->ticket, c->serial, c->read_length, c->written_length, c->answer_length, number, place);
-            exit(1);
-        }
-        given_back(buffer, place), given_back(answer, place), given_back(only_read, place);
-    }
-    steps++;
-}
-
-/* The bytes of the frame of a record. */
-static void to_frame(uint8_t *out, uint32_t slot, uint32_t ticket, uint16_t serial, const uint8_t *record, size_t length)
-{
-    const uint8_t head[HEAD] = {1, (uint8_t)((7 + length) >> 8), (uint8_t)(7 + length), (uint8_t)slot, (uint8_t)(ticket >> 24), (uint8_t)(ticket >> 16),
-                                (uint8_t)(ticket >> 8), (uint8_t)ticket, (uint8_t)(serial >> 8), (uint8_t)serial};
-    memcpy(out, head, HEAD);
-    memcpy(out + HEAD, record, length);
-}
-
-/* The writer, for a record of this length in a buffer of this length. */
-static void run_written(struct frame_call *c, size_t length, size_t room)
-{
-    int bad = c->slot >= UPLINK_SLOTS || c->ticket == 0 || length == 0 || length > UPLINK_LONGEST;
-    c->kind = WRITE, c->read_length = length, c->written_length = room, c->answer_length = UPLINK_FRAME_LENGTH;
-    c->number = bad ? UPLINK_BAD_FRAME : room < HEAD + length ? UPLINK_SHORT_BUFFER : UPLINK_ACCEPTED;
-    c->fields[0] = (uint32_t)(HEAD + length);
-    memset(c->before, PAINT, FRAME_SPACE), memset(c->after, PAINT, FRAME_SPACE);
-    for (size_t i = 0; i < length; i++)
-        c->read[i] = (uint8_t)below(256);
-    if (c->number == UPLINK_ACCEPTED)
-        to_frame(c->after, c->slot, c->ticket, c->serial, c->read, length);
-    lending_checked(c);
-}
-
-/* The ticket held and the serial expected of each slot; the office's memory, as docs/LAYOUT.md has it. */
-static uint32_t held[UPLINK_SLOTS];
-static uint16_t expected[UPLINK_SLOTS];
-
-static void to_office(uint8_t *out)
-{
-    for (size_t slot = 0; slot < UPLINK_SLOTS; slot++) {
-        for (size_t line = 0; line < 4; line++)
-            out[UPLINK_SLOTS * line + slot] = (uint8_t)(held[slot] >> 8 * line);
-        out[256 + slot] = (uint8_t)expected[slot], out[320 + slot] = (uint8_t)(expected[slot] >> 8);
-    }
-}
-
-/* The reader and the office, given the bytes in c->read, which are no frame or that of c->slot, c->ticket and c->serial. */
-static void run_read(struct frame_call *c, size_t length, int good)
-{
-    const uint32_t fields[] = {c->slot, c->ticket, c->serial, (uint32_t)length - HEAD};
-    c->kind = READ, c->read_length = length, c->written_length = 0, c->answer_length = UPLINK_UNFRAME_LENGTH;
-    c->number = good ? UPLINK_ACCEPTED : UPLINK_BAD_FRAME;
-    memcpy(c->fields, fields, sizeof fields);
-    lending_checked(c);
-    c->kind = TAKE, c->written_length = OFFICE_LENGTH, c->answer_length = OFFICE_TAKE_LENGTH;
-    to_office(c->before);
-    if (good) {
-        uint32_t due = c->ticket > held[c->slot] ? 0 : expected[c->slot], gap = (c->serial + UPLINK_SERIALS - due) % UPLINK_SERIALS;
-        int late = c->ticket < held[c->slot] || gap >= OFFICE_LATE_FROM;
-        c->fields[4] = late ? 0 : gap, c->fields[5] = (uint32_t)late;
-        if (!late)
-            held[c->slot] = c->ticket, expected[c->slot] = (uint16_t)(c->serial + 1);
-    }
-    to_office(c->after);
-    lending_checked(c);
-}
-
-/* A frame with a record of this length: whole, at each cut or some of them, with a byte more, and with each head byte changed. */
-static void run_frame(struct frame_call *c, size_t length, size_t cut_by)
-{
-    static uint8_t whole[FRAME_SPACE];
-    to_frame(whole, c->slot, c->ticket, c->serial, c->before, length);
-    memcpy(c->read, whole, HEAD + length + 1);
-    run_read(c, HEAD + length, 1);
-    for (size_t cut = 0; cut < HEAD + length; cut += cut_by)
-        run_read(c, cut, 0);
-    run_read(c, HEAD + length + 1, 0);
-    for (size_t place = 0; place < 3; place++) {
-        c->read[place] ^= (uint8_t)(1 << below(8));
-        run_read(c, HEAD + length, 0);
-        c->read[place] = whole[place];
-    }
-    c->read[3] = (uint8_t)(UPLINK_SLOTS + below(256 - UPLINK_SLOTS));
-    run_read(c, HEAD + length, 0);
-    c->read[3] = whole[3], memset(c->read + 4, 0, 4);
-    run_read(c, HEAD + length, 0);
-}
-
-/* Offices of other lengths, and one that expects a serial of a slot of which nothing was heard. */
-static void run_offices(struct frame_call *c)
-{
-    to_frame(c->read, 0, 1, 0, c->before, 1);
-    for (size_t length = OFFICE_LENGTH - 70; length < OFFICE_LENGTH + 70; length++) {
-        memset(c->before, 0, FRAME_SPACE), memset(c->after, 0, FRAME_SPACE);
-        c->before[256 + UPLINK_SLOTS - 1] = c->after[256 + UPLINK_SLOTS - 1] = 1;
-        c->kind = TAKE, c->read_length = HEAD + 1, c->written_length = length, c->answer_length = OFFICE_TAKE_LENGTH, c->number = UPLINK_UNSOUND;
-        lending_checked(c);
-        c->kind = BEGIN, c->read_length = 0, c->answer_length = 0;
-        c->number = length == OFFICE_LENGTH ? UPLINK_ACCEPTED : UPLINK_UNSOUND;
-        if (length == OFFICE_LENGTH)
-            memset(c->after, 0, FRAME_SPACE);
-        lending_checked(c);
-    }
-}
-
-static void run_frames(unsigned long times)
-{
-    static struct frame_call c;
-    c.slot = 5, c.ticket = 0x01020304, c.serial = 0x0506;
-    for (size_t length = 0; length <= UPLINK_LONGEST + 2; length++)
-        for (size_t room = HEAD + length - 1; room <= HEAD + length + 1; room++)
-            run_written(&c, length, room);
-    for (c.slot = UPLINK_SLOTS - 1; c.slot <= UPLINK_SLOTS; c.slot++)
-        for (c.ticket = 0; c.ticket < 2; c.ticket++)
-            run_written(&c, 3, 0), run_written(&c, 3, HEAD + 3), run_written(&c, 0, HEAD);
-    c.slot = 63, c.ticket = 7;
-    for (size_t length = 0; length <= WIDEST; length++) {
-        run_written(&c, 3, 20);
-        c.answer_length = length;
-        lending_checked(&c);
-    }
-    run_frame(&c, 1, 1), run_frame(&c, UPLINK_LONGEST, 1);
-    run_offices(&c);
-    for (unsigned long i = 0; i < times; i++) {
-        static const uint16_t gaps[] = {0, 0, 0, 1, 2, 32767, 32768, 65535};
-        c.slot = below(UPLINK_SLOTS);
-        c.ticket = held[c.slot] + (below(4) ? held[c.slot] == 0 : below(3)) - (held[c.slot] > 1 && below(8) == 0);
-        c.serial = (uint16_t)((c.ticket > held[c.slot] ? 0 : expected[c.slot]) + gaps[below(8)]);
-        c.ticket += c.ticket == 0;
-        run_frame(&c, 1 + below(40), 7);
-    }
-}
-
 int main(int count, char **words)
 {
     unsigned long calls = count > 1 ? strtoul(words[1], NULL, 10) : 1000000;
@@ -961,7 +770,6 @@ int main(int count, char **words)
     run_at_random(calls / 2, 1);
     run_at_random(calls - calls / 2, 2);
     run_sheets(calls / 50);
-    run_frames(calls / 50);
     printf("%lu known answers and %lu calls at random, each at %d places: no fault\n", steps, calls, PLACES);
     return 0;
 }

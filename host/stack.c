@@ -8,20 +8,16 @@
 #include <string.h>
 #include <ucontext.h>
 
-#include "office.h"
 #include "plain.h"
 
-enum { ROOM = 1 << 16, PAINT = 0xA5, OFFICE_ENOUGH = 512, ENOUGH = 2048, UNPARK_ENOUGH = 10240, PLAIN_ENOUGH = 8192 };
-enum kind {
-    NONE, OFFICE_START, OFFICE_TAKE, START, OPEN, PUT, CLOSE, NEXT, ASK, FULLEST, LEAD, TERM, SHEET, FRAME, UNFRAME, PARK, UNPARK, PLAIN_PUT, PLAIN_NEXT, KINDS
-};
+enum { ROOM = 1 << 16, PAINT = 0xA5, ENOUGH = 2048, UNPARK_ENOUGH = 10240, PLAIN_ENOUGH = 8192 };
+enum kind { NONE, START, OPEN, PUT, CLOSE, NEXT, ASK, FULLEST, LEAD, TERM, SHEET, PARK, UNPARK, PLAIN_PUT, PLAIN_NEXT, KINDS };
 
-static const char *const names[KINDS] = {"", "office_start", "office_take", "start", "open", "put", "close", "next", "ask", "fullest", "lead", "term", "sheet",
-                                        "frame", "unframe", "park", "unpark", "plain_put", "plain_next"};
+static const char *const names[KINDS] = {"", "start", "open", "put", "close", "next", "ask", "fullest", "lead", "term", "sheet",
+                                        "park", "unpark", "plain_put", "plain_next"};
 static unsigned char stack[ROOM];
 static uint8_t state[UPLINK_STATE_LENGTH], image[UPLINK_IMAGE_LENGTH], answer[64];
 static uint32_t image_length;
-static uint8_t office[OFFICE_LENGTH], record[UPLINK_LONGEST], frame[UPLINK_LONGEST_FRAME];
 /* Rows of weight 4,095 to 4,032 and a list that is right up to its end, in the round's first column. */
 static uint32_t weights[UPLINK_ROWS_MOST], rows[UPLINK_ROWS_MOST];
 static uint32_t slot, ticket, edition;
@@ -46,10 +42,6 @@ static void call(void)
         image_length = uplink_field(answer, 0);
         break;
     case UNPARK: uplink_unpark(state, sizeof state, image, image_length); break;
-    case FRAME: uplink_frame(63, ticket, 7, record, sizeof record, frame, sizeof frame, answer, UPLINK_FRAME_LENGTH); break;
-    case UNFRAME: uplink_unframe(frame, sizeof frame, answer, UPLINK_UNFRAME_LENGTH); break;
-    case OFFICE_START: office_start(office, sizeof office); break;
-    case OFFICE_TAKE: office_take(office, sizeof office, frame, sizeof frame, answer, OFFICE_TAKE_LENGTH); break;
     case PLAIN_PUT: plain_put(state, sizeof state, slot, ticket, 100, 7, answer, UPLINK_PUT_LENGTH); break;
     case PLAIN_NEXT: plain_next(state, sizeof state, answer, UPLINK_NEXT_LENGTH); break;
     default: break;
@@ -91,8 +83,7 @@ static enum kind by_matrix(enum kind kind)
 int main(void)
 {
     /* The first Put joins the rows. */
-    const enum kind calls[] = {OPEN, ASK, PUT, PUT, FULLEST, PARK, UNPARK, NEXT, NEXT, NEXT, NEXT, NEXT, NEXT, NEXT, NEXT, CLOSE, LEAD, TERM, SHEET,
-                               FRAME, UNFRAME, OFFICE_START, OFFICE_TAKE, START};
+    const enum kind calls[] = {OPEN, ASK, PUT, PUT, FULLEST, PARK, UNPARK, NEXT, NEXT, NEXT, NEXT, NEXT, NEXT, NEXT, NEXT, CLOSE, LEAD, TERM, SHEET, START};
     long none = touched(NONE), most[KINDS] = {0};
     int wrong = 0;
     for (uint32_t row = 0; row < UPLINK_ROWS_MOST; row++)
@@ -113,9 +104,9 @@ int main(void)
                 most[kind] = bytes;
         }
     }
-    for (int kind = OFFICE_START; kind < KINDS; kind++) {
+    for (int kind = START; kind < KINDS; kind++) {
         printf("%s %ld\n", names[kind], most[kind]);
-        wrong |= most[kind] > (kind < START ? OFFICE_ENOUGH : kind < UNPARK ? ENOUGH : kind == UNPARK ? UNPARK_ENOUGH : PLAIN_ENOUGH);
+        wrong |= most[kind] > (kind < UNPARK ? ENOUGH : kind == UNPARK ? UNPARK_ENOUGH : PLAIN_ENOUGH);
     }
     return wrong;
 }

@@ -7,21 +7,17 @@
  * every byte and the answer's fields are 0. An answer is a lent buffer of an exact length; its fields are 4 bytes
  * each, lowest byte first, and uplink_field reads one (uplink_lead: one field of 8 bytes, two's complement, read by
  * uplink_signed). A buffer of another length gives UPLINK_UNSOUND before all else, and no buffer is touched. State,
- * image, lists, record, frame and answer must not overlap. No alignment is asked for but that of uint32_t, for the lists
- * of uplink_sheet. docs/ANSWERS.md has every byte.
+ * image, lists and answer must not overlap. No alignment is asked for but that of uint32_t, for the lists of
+ * uplink_sheet. docs/ANSWERS.md has every byte.
  *
  * For a change of the firmware uplink_park writes the state to an image that any later firmware reads by uplink_unpark.
  * The state is then parked: but for uplink_start and uplink_unpark, every call on it gives UPLINK_PARKED.
  *
- * What uplink_next tells goes over the radio as a frame, which uplink_frame writes; office.h has the office that takes
- * frames and counts the records that the radio dropped.
- *
  * Work: a call reads the state about once; uplink_put and uplink_next then move up to 3,066 bytes of it by one place;
  * uplink_park writes the image once, and uplink_unpark reads it, writes it again to compare, and writes the state;
- * uplink_sheet takes a step for each visit that is right and for each of up to 4,095 positions; uplink_frame copies the
- * record once, and uplink_unframe reads ten bytes. Every loop has a bound, whatever is lent; no call allocates, blocks,
- * recurses or keeps a pointer. Stack: 2,048 bytes are enough for any call but uplink_unpark, for which 10,240 are: it
- * builds the state aside before it writes.
+ * uplink_sheet takes a step for each visit that is right and for each of up to 4,095 positions. Every loop has a bound,
+ * whatever is lent; no call allocates, blocks, recurses or keeps a pointer. Stack: 2,048 bytes are enough for any call
+ * but uplink_unpark, for which 10,240 are: it builds the state aside before it writes.
  *
  * Interrupts and threads: there is no static data, so calls on different states may interrupt each other or run at the
  * same time. On one state only one call may be under way: whoever makes a call from an interrupt has to be sure that it
@@ -41,7 +37,7 @@ extern "C" {
 #endif
 
 /* Version of this interface: major * 10000 + minor * 100 + patch. */
-#define UPLINK_VERSION 40200
+#define UPLINK_VERSION 40100
 
 /* Lengths in bytes of the lent state, of the longest image and of each call's answer. */
 #define UPLINK_STATE_LENGTH 4102
@@ -56,8 +52,6 @@ extern "C" {
 #define UPLINK_LEAD_LENGTH 8
 #define UPLINK_TERM_LENGTH 4
 #define UPLINK_SHEET_LENGTH 8
-#define UPLINK_FRAME_LENGTH 4
-#define UPLINK_UNFRAME_LENGTH 16
 
 /* Slots are 0 to UPLINK_SLOTS - 1. Tickets are 1 to UPLINK_LAST_TICKET, so that 0 is nobody's. */
 #define UPLINK_SLOTS 64
@@ -77,9 +71,6 @@ extern "C" {
  */
 #define UPLINK_LONGEST 1014
 #define UPLINK_FRAMING 10
-
-/* The framing is the head of a frame: its record stands from byte UPLINK_FRAMING on. No frame is longer than this. */
-#define UPLINK_LONGEST_FRAME 1024
 
 /*
  * At most UPLINK_ROOM records wait in a channel. UPLINK_KEPT cells are kept for every slot, so a channel with fewer
@@ -127,9 +118,8 @@ enum uplink_refusal {
     UPLINK_NO_SHARED = 13,    /* two records or more wait, and no shared cell is free */
     UPLINK_PARKED = 14,       /* state is parked: it takes only uplink_start and uplink_unpark */
     UPLINK_BAD_IMAGE = 15,    /* not exactly the image of one sound state */
-    UPLINK_SHORT_BUFFER = 16, /* buffer too short for the image or the frame */
-    UPLINK_TOO_MANY = 17,     /* more than 64 weights */
-    UPLINK_BAD_FRAME = 20     /* not a frame, or nothing that a frame can say */
+    UPLINK_SHORT_BUFFER = 16, /* buffer too short for the image */
+    UPLINK_TOO_MANY = 17      /* more than 64 weights */
 };
 
 /*
@@ -210,23 +200,6 @@ uint32_t uplink_term(uint32_t order, uint32_t position, uint8_t *answer, size_t 
 uint32_t uplink_sheet(const uint32_t *weights, size_t weights_length, const uint32_t *rows, size_t rows_length,
                       uint8_t *answer, size_t answer_length);
 
-/*
- * Writes the frame of a record to the beginning of a lent buffer of frame_length bytes, whose other bytes are kept: slot,
- * ticket and serial as uplink_next answered them, and the record's own bytes. UPLINK_LONGEST_FRAME bytes hold any frame.
- * Refused with UPLINK_BAD_FRAME for a slot above 63, ticket 0 or a record of no length or above UPLINK_LONGEST, then with
- * UPLINK_SHORT_BUFFER; nothing is written then. Answer: the frame's length.
- */
-uint32_t uplink_frame(uint32_t slot, uint32_t ticket, uint16_t serial, const uint8_t *record, size_t record_length,
-                      uint8_t *frame, size_t frame_length, uint8_t *answer, size_t answer_length);
-
-/*
- * Tells what a frame says. frame_length is the frame's own, as uplink_frame answered it. Refused with UPLINK_BAD_FRAME for
- * bytes that uplink_frame never writes: cut short or with bytes left over, of another version, or with a slot above 63,
- * ticket 0 or a record of no length or above UPLINK_LONGEST. Answer: slot, ticket, serial, the record's length; the record
- * stands in the frame from byte UPLINK_FRAMING on.
- */
-uint32_t uplink_unframe(const uint8_t *frame, size_t frame_length, uint8_t *answer, size_t answer_length);
-
 /* Field i of an answer, the first is 0: 4 bytes, lowest first. The answer has to have that field. */
 static inline uint32_t uplink_field(const uint8_t *answer, size_t i)
 {
@@ -260,9 +233,8 @@ static inline const char *uplink_text(uint32_t number)
     case UPLINK_NO_SHARED: return "no shared cell left";
     case UPLINK_PARKED: return "state is parked";
     case UPLINK_BAD_IMAGE: return "not the image of a state";
-    case UPLINK_SHORT_BUFFER: return "buffer too short";
+    case UPLINK_SHORT_BUFFER: return "buffer too short for the image";
     case UPLINK_TOO_MANY: return "more than 64 weights";
-    case UPLINK_BAD_FRAME: return "not a frame";
     default: return "not a number of these calls";
     }
 }

@@ -38,12 +38,10 @@ pub enum Refusal {
     ShortBuffer = 16,
     /// "17 for more than 64 weights"
     TooMany = 17,
-    /// "20 for a frame that is cut short or has bytes left over, of another version, or with slot above 63, ticket 0 or a record of length outside 1 to 1,014"
-    BadFrame = 20,
 }
 
 impl Refusal {
-    pub const ALL: [Refusal; 17] = [
+    pub const ALL: [Refusal; 16] = [
         Refusal::NoSlot,
         Refusal::NotPresent,
         Refusal::AtClosing,
@@ -60,7 +58,6 @@ impl Refusal {
         Refusal::BadImage,
         Refusal::ShortBuffer,
         Refusal::TooMany,
-        Refusal::BadFrame,
     ];
 
     /// The documents' number.
@@ -138,24 +135,7 @@ pub struct Filling {
 #[derive(Clone, Debug, PartialEq, Eq)]
 pub struct Fullest(pub Vec<Filling>);
 
-/// What a frame says, and the length of its record.
-#[derive(Clone, Copy, Debug, PartialEq, Eq)]
-pub struct Contents {
-    pub slot: u32,
-    pub ticket: u32,
-    pub serial: u16,
-    pub length: u32,
-}
-
-/// What the office answers to a frame: what it says, how many were lost before it, and whether it is a late repeat, before which none count as lost.
-#[derive(Clone, Copy, Debug, PartialEq, Eq)]
-pub struct Taken {
-    pub contents: Contents,
-    pub lost: u32,
-    pub late: bool,
-}
-
-/// What the writer of the parked image answers, and that of a frame: its length.
+/// What the writer of the parked image answers: its length.
 #[derive(Clone, Copy, Debug, PartialEq, Eq)]
 pub struct Written {
     pub length: u32,
@@ -244,28 +224,6 @@ impl Fields for Written {
     fn of(fields: &[u32]) -> Option<Written> {
         let &[length] = fields else { return None };
         Some(Written { length })
-    }
-}
-
-impl Fields for Contents {
-    fn fields(&self) -> Vec<u32> {
-        vec![self.slot, self.ticket, u32::from(self.serial), self.length]
-    }
-
-    fn of(fields: &[u32]) -> Option<Contents> {
-        let &[slot, ticket, serial, length] = fields else { return None };
-        Some(Contents { slot, ticket, serial: u16::try_from(serial).ok()?, length })
-    }
-}
-
-impl Fields for Taken {
-    fn fields(&self) -> Vec<u32> {
-        [self.contents.fields(), vec![self.lost, u32::from(self.late)]].concat()
-    }
-
-    fn of(fields: &[u32]) -> Option<Taken> {
-        let (contents, &[lost, late @ (0 | 1)]) = fields.split_at_checked(4)? else { return None };
-        Some(Taken { contents: Contents::of(contents)?, lost, late: late == 1 })
     }
 }
 

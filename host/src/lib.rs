@@ -2,8 +2,6 @@
 //!
 //! - [`scheduler`], [`steps`], [`sound`], [`notes`], [`spread`], [`sheet`], [`answers`]: an independent scheduler, written from documents 01 and 02 over plain
 //!   structures, and a checker of round sheets.
-//! - [`frame`], [`office`]: frames on their way to the office, and the office, written from document 02; [`radio`]: a radio that drops and mixes what the scheduler
-//!   sends; [`counting`]: engines under test for these; [`arrivals`]: what they are compared on.
 //! - [`layout`]: the lent memory, written from and read into that scheduler; [`check`]: the same question asked record by record; [`image`]: the parked image.
 //! - [`engine`], `linked` and `entries` (feature `linked`), [`model`], [`beside`], [`history`], [`lent`], [`compare`], [`shrink`]: an engine under test, or two that
 //!   must agree, is run beside the independent scheduler, call by call, and every byte is compared.
@@ -14,18 +12,15 @@
 //!   `matrix` with.
 
 pub mod answers;
-pub mod arrivals;
 pub mod beside;
 pub mod check;
 pub mod compare;
-pub mod counting;
 pub mod damage;
 pub mod deficit;
 pub mod door;
 pub mod engine;
 #[cfg(feature = "linked")]
 pub mod entries;
-pub mod frame;
 pub mod generate;
 pub mod history;
 pub mod image;
@@ -36,12 +31,10 @@ pub mod lift;
 pub mod linked;
 pub mod model;
 pub mod notes;
-pub mod office;
 pub mod page;
 #[cfg(feature = "linked")]
 pub mod pictures;
 pub mod pool;
-pub mod radio;
 pub mod random;
 pub mod scheduler;
 pub mod shapes;

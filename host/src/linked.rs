@@ -6,12 +6,11 @@ use std::path::Path;
 use std::process::Command;
 
 use uplink::entries::{
-    office_start, office_take, uplink_ask, uplink_close, uplink_frame, uplink_fullest, uplink_lead, uplink_next, uplink_open, uplink_park,
-    uplink_put, uplink_sheet, uplink_start, uplink_term, uplink_unframe, uplink_unpark,
+    uplink_ask, uplink_close, uplink_fullest, uplink_lead, uplink_next, uplink_open, uplink_park, uplink_put, uplink_sheet, uplink_start,
+    uplink_term, uplink_unpark,
 };
 
 use crate::beside::Beside;
-use crate::counting::Counting;
 use crate::engine::Engine;
 use crate::entries::{plain_next, plain_put};
 
@@ -36,17 +35,6 @@ pub struct Entries {
     term: Term,
     /// None in an archive from before §9.
     sheet: Option<Sheet>,
-    /// None in an archive from before §14.
-    counting: Option<FramesAndOffice>,
-}
-
-/// The entries for frames and of the office.
-#[derive(Clone, Copy)]
-struct FramesAndOffice {
-    frame: Frame,
-    unframe: Unframe,
-    start: OfficeStart,
-    take: Take,
 }
 
 type Start = unsafe extern "C" fn(*mut u8, usize, u32) -> u32;
@@ -61,10 +49,6 @@ type Unpark = unsafe extern "C" fn(*mut u8, usize, *const u8, usize) -> u32;
 type Lead = unsafe extern "C" fn(u32, u32, u32, u32, *mut u8, usize) -> u32;
 type Term = unsafe extern "C" fn(u32, u32, *mut u8, usize) -> u32;
 type Sheet = unsafe extern "C" fn(*const u32, usize, *const u32, usize, *mut u8, usize) -> u32;
-type Frame = unsafe extern "C" fn(u32, u32, u16, *const u8, usize, *mut u8, usize, *mut u8, usize) -> u32;
-type Unframe = unsafe extern "C" fn(*const u8, usize, *mut u8, usize) -> u32;
-type OfficeStart = unsafe extern "C" fn(*mut u8, usize) -> u32;
-type Take = unsafe extern "C" fn(*mut u8, usize, *const u8, usize, *mut u8, usize) -> u32;
 
 /// The entries that this program is linked with.
 pub const LINKED: Entries = Entries {
@@ -80,7 +64,6 @@ pub const LINKED: Entries = Entries {
     lead: uplink_lead,
     term: uplink_term,
     sheet: Some(uplink_sheet),
-    counting: Some(FramesAndOffice { frame: uplink_frame, unframe: uplink_unframe, start: office_start, take: office_take }),
 };
 
 /// The same, with Put and Next of support's engine.
@@ -133,15 +116,6 @@ impl Entries {
                 lead: as_entry::<*mut c_void, Lead>(symbol(c"uplink_lead")?),
                 term: as_entry::<*mut c_void, Term>(symbol(c"uplink_term")?),
                 sheet: symbol(c"uplink_sheet").ok().map(|found| as_entry::<*mut c_void, Sheet>(found)),
-                counting: match symbol(c"uplink_frame") {
-                    Err(_) => None,
-                    Ok(frame) => Some(FramesAndOffice {
-                        frame: as_entry::<*mut c_void, Frame>(frame),
-                        unframe: as_entry::<*mut c_void, Unframe>(symbol(c"uplink_unframe")?),
-                        start: as_entry::<*mut c_void, OfficeStart>(symbol(c"office_start")?),
-                        take: as_entry::<*mut c_void, Take>(symbol(c"office_take")?),
-                    }),
-                },
             })
         }
     }
@@ -198,33 +172,5 @@ impl Engine for Entries {
     fn sheet(&mut self, weights: &mut [u32], rows: &mut [u32], answer: &mut [u8]) -> u32 {
         let sheet = self.sheet.expect("the archive checks sheets");
         unsafe { sheet(weights.as_mut_ptr(), weights.len(), rows.as_mut_ptr(), rows.len(), answer.as_mut_ptr(), answer.len()) }
-    }
-}
-
-impl Entries {
-    fn counting(&self) -> FramesAndOffice {
-        self.counting.expect("the archive has frames and the office")
-    }
-}
-
-impl Counting for Entries {
-    fn frame(&mut self, slot: u32, ticket: u32, serial: u16, record: &mut [u8], frame: &mut [u8], answer: &mut [u8]) -> u32 {
-        let (record, count) = (record.as_ptr(), record.len());
-        unsafe {
-            (self.counting().frame)(slot, ticket, serial, record, count, frame.as_mut_ptr(), frame.len(), answer.as_mut_ptr(), answer.len())
-        }
-    }
-
-    fn unframe(&mut self, frame: &mut [u8], answer: &mut [u8]) -> u32 {
-        unsafe { (self.counting().unframe)(frame.as_ptr(), frame.len(), answer.as_mut_ptr(), answer.len()) }
-    }
-
-    fn start_office(&mut self, office: &mut [u8]) -> u32 {
-        unsafe { (self.counting().start)(office.as_mut_ptr(), office.len()) }
-    }
-
-    fn take(&mut self, office: &mut [u8], frame: &mut [u8], answer: &mut [u8]) -> u32 {
-        let (memory, length) = (office.as_mut_ptr(), office.len());
-        unsafe { (self.counting().take)(memory, length, frame.as_ptr(), frame.len(), answer.as_mut_ptr(), answer.len()) }
     }
 }

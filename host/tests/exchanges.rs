@@ -171,8 +171,7 @@ fn every_exchange_of_support_is_found() {
     assert_eq!(tried, 8);
 }
 
-/// The calls here have as many numbers as the entries of the code. (Those for frames and of the office stand in files of their own; theirs are
-/// exchanged among the wrong engines of tests/misheard.)
+/// The calls here have as many numbers as the entries of the code.
 #[test]
 fn every_parameter_is_tried() {
     let entries = ["driver/src/lib.rt", "support/src/lib.rt"].into_iter().flat_map(|file| functions(&source(file)));

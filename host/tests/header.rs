@@ -1,6 +1,5 @@
-//! include/uplink.h and include/office.h against what they declare: the numbers of the proved code, the limits of the specs, the lengths that the entries take, and
-//! their parameters. They are typed by hand and nothing proves them, so each name is looked up, and one that is not known here is a mistake. include/plain.h is held
-//! against the first.
+//! include/uplink.h against what it declares: the numbers of the proved code, the limits of the specs, the lengths that the entries take, and their parameters. It
+//! is typed by hand and nothing proves it, so each name of it is looked up, and one that is not known here is a mistake. include/plain.h is held against it.
 
 mod common;
 mod rattle;
@@ -10,12 +9,11 @@ use std::fs;
 use std::path::Path;
 
 use host::answers::Refusal;
-use host::counting::Counting;
 use host::engine::Engine;
 use host::history::Call;
 use host::layout::{fresh, to_bytes, LENGTH};
 use host::pool::full;
-use rattle::{entries_of, source, without_comments};
+use rattle::{functions, source, without_comments};
 
 type Numbers = BTreeMap<String, u64>;
 
@@ -61,11 +59,11 @@ fn refusals(header: &str) -> Numbers {
     }))
 }
 
-/// `#define PREFIX_NAME number`, without the prefix. Only the guard has no number.
-fn macros(header: &str, prefix: &str) -> Numbers {
+/// `#define UPLINK_NAME number`, without the prefix. Only the guard has no number.
+fn macros(header: &str) -> Numbers {
     once(header.lines().filter_map(|line| {
         let (name, value) = line.strip_prefix("#define ")?.split_once(' ').unwrap_or((&line[8..], ""));
-        let name = name.strip_prefix(prefix).unwrap_or_else(|| panic!("{line}: another prefix"));
+        let name = name.strip_prefix("UPLINK_").unwrap_or_else(|| panic!("{line}: another prefix"));
         let found = number(value).map(|number| (name.to_string(), number));
         assert!(found.is_some() || (name, value) == ("H", ""), "{line}: no number");
         found
@@ -144,10 +142,7 @@ fn refusals_have_the_same_texts_in_rust() {
 
 /// `name = number` of the specs that hold the documents' limits.
 fn limits() -> Numbers {
-    limits_of(&(source("rules/specs/Numbers.antt") + &source("spread/specs/Limits.antt") + &source("sheet/specs/Sheet.antt")))
-}
-
-fn limits_of(texts: &str) -> Numbers {
+    let texts = source("rules/specs/Numbers.antt") + &source("spread/specs/Limits.antt") + &source("sheet/specs/Sheet.antt");
     once(texts.lines().filter_map(|line| {
         let (name, value) = line.split_once(" = ")?;
         Some((capitals(name), number(value)?))
@@ -159,22 +154,6 @@ fn taken(call: Call) -> Vec<u64> {
     let takes =
         |length: &usize| common::engine().call(&call, &mut fresh(1), &mut call.image(), &mut vec![0; *length]) != Refusal::Unsound.number();
     (0..=64).filter(takes).map(|length| length as u64).collect()
-}
-
-/// The one length of an answer, of those up to 64 bytes, with which a call is not refused with 10.
-fn answer_length(mut call: impl FnMut(&mut [u8]) -> u32) -> u64 {
-    let taken: Vec<usize> = (0..=64).filter(|&length| call(&mut vec![0; length]) != Refusal::Unsound.number()).collect();
-    assert_eq!(taken.len(), 1);
-    taken[0] as u64
-}
-
-/// The length of the frame of the longest record.
-fn longest_frame() -> u64 {
-    let mut answer = [0; 4];
-    let mut frame = |length: usize| common::adapter().frame(0, 1, 0, &mut vec![0; length], &mut [0; 5_000], &mut answer);
-    let longest = (1..4_000).take_while(|&length| frame(length) == 0).last().unwrap_or(0);
-    assert_eq!(frame(longest), 0);
-    u64::from(u32::from_le_bytes(answer))
 }
 
 /// The one length that is taken of those up to 10,000 bytes of state.
@@ -218,31 +197,16 @@ fn macros_have_the_numbers_of_code_and_specs() {
         assert_eq!(lengths.len(), 1, "{name}: {lengths:?}");
         expected.insert(format!("{name}_LENGTH"), lengths[0]);
     }
-    let frame = answer_length(|answer| common::adapter().frame(0, 1, 0, &mut [0], &mut [0; 11], answer));
-    let unframe = answer_length(|answer| common::adapter().unframe(&mut [], answer));
-    expected.extend([("FRAME_LENGTH".to_string(), frame), ("UNFRAME_LENGTH".to_string(), unframe)]);
-    expected.insert("LONGEST_FRAME".to_string(), longest_frame());
     expected.insert("STATE_LENGTH".to_string(), state_length());
     expected.insert("IMAGE_LENGTH".to_string(), image_length());
     expected.insert("VERSION".to_string(), version());
-    let declared = macros(&header(), "UPLINK_");
+    let declared = macros(&header());
     for (name, number) in &declared {
         assert_eq!(expected.get(name), Some(number), "UPLINK_{name}, beside what the code or the specs have of that name");
     }
     for name in expected.keys().filter(|name| name.ends_with("_LENGTH") || *name == "VERSION") {
         assert!(declared.contains_key(name), "the header has no UPLINK_{name}");
     }
-}
-
-#[test]
-fn macros_of_the_office_have_the_numbers_of_code_and_specs() {
-    let taken: Vec<usize> = (0..5_000).filter(|&length| common::adapter().start_office(&mut vec![1; length]) == 0).collect();
-    let [office] = taken[..] else { panic!("{} lengths of an office are taken", taken.len()) };
-    let take = answer_length(|answer| common::adapter().take(&mut vec![0; office], &mut [], answer));
-    let late_from = limits_of(&source("office/specs/Office.antt"))["LATE_FROM"];
-    let expected = [("LENGTH", office as u64), ("TAKE_LENGTH", take), ("LATE_FROM", late_from)];
-    assert_eq!(macros(&header_of("office"), "OFFICE_"), once(expected.map(|(name, number)| (name.to_string(), number))));
-    assert!(header_of("office").contains("#include \"uplink.h\""));
 }
 
 /// Types and names of an entry's parameters, as C has them.
@@ -269,17 +233,14 @@ fn in_c(header: &str) -> BTreeMap<String, Parameters> {
     })
 }
 
-/// The entries of a crate of the proved code. A slice is a pointer and a length in C, and one that is only read points to const. (`record` is a word of the proofs'
-/// language, so a record is a body there.)
+/// The entries of a crate of the proved code. A slice is a pointer and a length in C, and one that is only read points to const.
 fn in_rattle(name: &str) -> BTreeMap<String, Parameters> {
     let mut entries = BTreeMap::new();
-    for entry in entries_of(name) {
+    for entry in functions(&source(&format!("{name}/src/lib.rt"))).into_iter().filter(|function| function.exported) {
         assert_eq!(entry.result, "u32", "{}", entry.name);
         let mut parameters = Vec::new();
         for (name, kind) in entry.parameters {
-            let name = if name == "body" { "record".to_string() } else { name };
             let pointer = match &kind[..] {
-                "u16" => "uint16_t",
                 "u32" => "uint32_t",
                 "&[u32]" => "const uint32_t *",
                 "&[u8]" => "const uint8_t *",
@@ -287,7 +248,7 @@ fn in_rattle(name: &str) -> BTreeMap<String, Parameters> {
                 _ => panic!("{}: a parameter of type {kind}", entry.name),
             };
             parameters.push((pointer.to_string(), name.clone()));
-            if kind.starts_with('&') {
+            if kind != "u32" {
                 parameters.push(("size_t".to_string(), name + "_length"));
             }
         }
@@ -301,7 +262,6 @@ fn in_rust(file: &str) -> BTreeMap<String, Parameters> {
     declared(&read(file), "\n    pub fn ", |parameter| {
         let (name, kind) = parameter.split_once(": ").expect("a name and a type");
         let kind = match kind {
-            "u16" => "uint16_t",
             "u32" => "uint32_t",
             "usize" => "size_t",
             "*const u8" => "const uint8_t *",
@@ -318,17 +278,13 @@ fn compare(declared: BTreeMap<String, Parameters>) {
     let entries = in_rattle("driver");
     assert_eq!(declared.keys().collect::<Vec<_>>(), entries.keys().collect::<Vec<_>>());
     for (name, parameters) in declared {
-        assert_eq!(parameters, entries[&name], "{name}, beside crates/driver/src");
+        assert_eq!(parameters, entries[&name], "{name}, beside crates/driver/src/lib.rt");
     }
 }
 
-/// Each entry is in the header that its name begins with.
 #[test]
 fn entries_have_the_parameters_of_the_code() {
-    let (mut declared, office) = (in_c("uplink"), in_c("office"));
-    assert!(declared.keys().all(|name| name.starts_with("uplink_")) && office.keys().all(|name| name.starts_with("office_")));
-    declared.extend(office);
-    compare(declared);
+    compare(in_c("uplink"));
 }
 
 #[test]

@@ -7,8 +7,7 @@ use host::layout::{fresh, is_sound_memory, to_bytes, LENGTH};
 use host::random::Random;
 use host::states;
 use uplink::entries::uplink_start;
-use uplink::{frame, lead, sheet, term, unframe, FRAMING, LONGEST_FRAME};
-use uplink::{Added, Closed, Edition, Filling, Memory, Office, Opened, Refusal, Sent, Sheet, Standing, Told};
+use uplink::{lead, sheet, term, Added, Closed, Edition, Filling, Memory, Opened, Refusal, Sent, Sheet, Standing, Told};
 
 const EDITIONS: [Edition; 2] = [Edition::One, Edition::Two];
 
@@ -243,44 +242,6 @@ fn sheets_are_checked() {
     }
 }
 
-/// Document 02, §14: what a memory sends is framed, and an office counts what does not arrive.
-#[test]
-fn frames_reach_the_office() {
-    let (mut memory, mut office) = (Memory::new(Edition::Two), Office::new());
-    memory.open(1).unwrap();
-    let mut told = Vec::new();
-    for number in 0..40u8 {
-        memory.put(0, 1, 5, u32::from(number)).unwrap();
-        let sent = memory.next().unwrap();
-        let (mut buffer, record) = ([0xa5; LONGEST_FRAME], [number; 5]);
-        let length = frame(sent.slot, sent.ticket, sent.serial as u16, &record, &mut buffer).unwrap();
-        assert_eq!((length, buffer[length..].iter().all(|&byte| byte == 0xa5)), (FRAMING + 5, true));
-        let contents = unframe(&buffer[..length]).unwrap();
-        assert_eq!((contents.slot, contents.ticket, u32::from(contents.serial), contents.record), (0, 1, sent.serial, &record[..]));
-        if number % 7 == 3 {
-            let taken = office.take(&buffer[..length]).unwrap();
-            assert_eq!(taken.contents, contents);
-            told.push(taken.lost);
-            let before = office.clone();
-            assert_eq!(office.take(&buffer[..length]).map(|taken| taken.lost), Ok(None));
-            assert_eq!(office.take(&buffer[..length + 1]), Err(Refusal::BadFrame));
-            assert_eq!(office, before);
-        }
-    }
-    assert_eq!(told, [3, 6, 6, 6, 6, 6].map(Some));
-    assert_eq!(frame(64, 1, 0, &[1], &mut [0; 11]), Err(Refusal::BadFrame));
-    assert_eq!(frame(63, 1, 0, &[1], &mut [0; 10]), Err(Refusal::ShortBuffer));
-    assert_eq!(unframe(&[]), Err(Refusal::BadFrame));
-    // A serial is expected of a slot of which nothing was heard.
-    let mut bytes = [0; Office::LENGTH];
-    bytes[Office::LENGTH - 1] = 1;
-    let mut unsound = Office::from_bytes(bytes);
-    assert_eq!(unsound.take(&[]), Err(Refusal::Unsound));
-    unsound.start();
-    assert_eq!((unsound == Office::default(), unsound.bytes() == &[0; Office::LENGTH]), (true, true));
-    assert_eq!(format!("{unsound:?}"), "Office { length: 384, .. }");
-}
-
 /// Ask and Fullest take a memory that is only lent to be read.
 #[test]
 fn ask_and_fullest_read_alone() {
@@ -296,8 +257,8 @@ fn ask_and_fullest_read_alone() {
 fn a_refusal_is_an_error_with_a_text_of_its_own() {
     let texts: Vec<String> = Refusal::ALL.iter().map(|refusal| (refusal as &dyn Error).to_string()).collect();
     assert!(texts.iter().enumerate().all(|(place, text)| !text.is_empty() && !texts[..place].contains(text)), "{texts:?}");
-    for number in 0..30 {
-        let used = (1..=8).contains(&number) || (10..=17).contains(&number) || number == 20;
+    for number in 0..20 {
+        let used = (1..=8).contains(&number) || (10..=17).contains(&number);
         assert_eq!(Refusal::from_number(number).map(Refusal::number), used.then_some(number));
     }
 }

@@ -23,7 +23,6 @@ refusal_of answer.parked = refusal.Parked
 refusal_of answer.bad_image = refusal.BadImage
 refusal_of answer.short_buffer = refusal.ShortBuffer
 refusal_of answer.too_many = refusal.TooMany
-refusal_of answer.bad_frame = refusal.BadFrame
 
 back : (r : Refusal) → refusal_of (refusal_told r) ≡ r
 unfolding refusal_of
@@ -43,7 +42,6 @@ back refusal.Parked = refl
 back refusal.BadImage = refl
 back refusal.ShortBuffer = refl
 back refusal.TooMany = refl
-back refusal.BadFrame = refl
 
 pub refusal-told-once : (p q : Refusal) → refusal_told p ≡ refusal_told q → p ≡ q
 refusal-told-once p q e = sym (back p) ∙ ap refusal_of e ∙ back q

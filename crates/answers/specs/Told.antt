@@ -20,4 +20,3 @@ refusal_told refusal.Parked = answer.parked
 refusal_told refusal.BadImage = answer.bad_image
 refusal_told refusal.ShortBuffer = answer.short_buffer
 refusal_told refusal.TooMany = answer.too_many
-refusal_told refusal.BadFrame = answer.bad_frame

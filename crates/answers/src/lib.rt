@@ -25,7 +25,6 @@ pub enum Refusal {
     BadImage,
     ShortBuffer,
     TooMany,
-    BadFrame,
 }
 
 // The number of a refusal, by document 01's table. (9 is not used: 02 §8.)
@@ -49,6 +48,5 @@ pub fn number_of(why: Refusal) -> u32
         Refusal::BadImage => 15,
         Refusal::ShortBuffer => 16,
         Refusal::TooMany => 17,
-        Refusal::BadFrame => 20,
     }
 }

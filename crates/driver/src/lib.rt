@@ -24,8 +24,6 @@ use uplink::{AskAnswer, CloseAnswer, FullestAnswer, OpenAnswer, StartAnswer};
 
 pub mod fields; // fields.rt: numbers and fields
 pub mod records; // records.rt: what Put and Next answer
-pub mod frames; // frames.rt: the frame of a record, and what it says
-pub mod counting; // counting.rt: the office, which counts what was lost
 
 // Makes the state fresh, of an edition. It has no answer buffer.
 #[unsafe(no_mangle)]

@@ -313,12 +313,12 @@ module _ (f g : ℕ → ℕ) (s : ℕ) (small : (i : ℕ) → f i < 65536) (smal
       let kept : keep (up_to (key g) t) after ≡ rest
       = sym
       (keep-first (up_to (key g) t) (λ i. not (eqb i s)) after
-      (λ i e. ne-not i s (λ q. let r : key g i ≡ key g s = ap (key g) q in omega (arith, leb-true t (key g i) e))))
+      (λ i e. ne_not i s (λ q. let r : key g i ≡ key g s = ap (key g) q in omega (arith, leb-true t (key g i) e))))
       ∙ first-kept in
       falls-parts (key g) t top after after-falls ∙ ap (λ (xs : List ℕ). xs ++ low t) kept
     where
-      ne-not : (i j : ℕ) → (i ≡ j → ⊥) → not (eqb i j) ≡ true
-      ne-not i j d = rw (ne_eqb i j d) refl
+      ne_not : (i j : ℕ) → (i ≡ j → ⊥) → not (eqb i j) ≡ true
+      ne_not i j d = rw (ne_eqb i j d) refl
 
       first-kept : keep (up_to (key g) (least_of (key g) rest)) (without s after) ≡ rest
       first-kept = go (length rest) refl

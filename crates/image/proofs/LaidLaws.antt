@@ -1,4 +1,4 @@
--- Numbers and parts written byte by byte: what one turn of each loop adds.
+-- Numbers, bytes and parts written byte by byte: what one turn of each loop adds.
 use mathlib.Core.Path.{◌≡◌, sym, ap, ◌∙◌}
 use mathlib.Core.List.{List, [], ◌∷◌, ◌++◌, append_assoc, append-nil}
 use Prim.Native.Nat.{ℕ, zero, suc, ◌+◌, ◌-◌, ◌/◌, ◌%◌, ◌^◌, ◌≤◌, ◌<◌}
@@ -8,7 +8,7 @@ use native.Mathlib.Omega.{arith}
 use lib.ListN.{length, get_or, take, drop, set, length-append}
 use lib.Seq.{take_all, length-take-le, set-append_seam, take-suc}
 use Rattle.octets.specs.Writing.{written, Written}
-use Rattle.octets.proofs.WritingLaws.{written_none, nothing_written, then-written}
+use Rattle.octets.proofs.WritingLaws.{written_none, nothing_written, byte-written, then-written, kept-length}
 use Rattle.image.specs.Parts.{high_first, parts_of, laid, span}
 use Rattle.image.proofs.PartLaws.{length-high_first}
 
@@ -49,6 +49,18 @@ module _ (b : List ℕ) (at w n : ℕ) where
 
   pub number-whole : written b (at + 0) (high_first (w - 0) n) ≡ written b at (high_first w n)
   number-whole = let e : at + 0 ≡ at = omega arith in let f : w - 0 ≡ w = omega arith in rw (e, f)
+
+-- ---- bytes as they are
+
+pub bytes-turn : {b : List ℕ} {o : List ℕ} (at : ℕ) (bytes : List ℕ) (i : ℕ) → Written b at (take i bytes) (at + i) o → at + length bytes ≤ length b → i < length bytes
+    → Written b at (take (i + 1) bytes) (at + (i + 1)) (set o (at + i) (get_or bytes i 0))
+bytes-turn {b} {o} at bytes i W room l =
+    let size : length (take i bytes) ≡ i = length-take-le i bytes (omega arith) in
+    let len : length o ≡ length b = kept-length W (omega arith) in
+    let next = then-written W (omega arith) (byte-written o (at + i) (get_or bytes i 0) (omega arith)) in
+    let e : take (i + 1) bytes ≡ take i bytes ++ get_or bytes i 0 ∷ [] = ap (λ (n : ℕ). take n bytes) (add-one i) ∙ take-suc bytes i 0 l in
+    let p : at + (i + 1) ≡ at + i + 1 = omega arith in
+    rw (e, p) next
 
 -- ---- parts, told as their widths and their numbers
 

@@ -3,13 +3,15 @@ use Rattle.std.specs.Prelude.{ℕ, true, cond, List, eqb, ltb, length}
 use Rattle.std.proofs.Math.Option.{Option, none, some}
 use Rattle.octets.specs.Writing.{written}
 use Rattle.answers.specs.Answer.{unsound, parked, bad_image, short_buffer, Answer, refused, given}
-pub use Rattle.answers.specs.Answer.{leaving}
 use Rattle.rules.specs.State.{State, with_mark}
 use Rattle.memory.specs.Layout.{bytes_of, memory_of, memory_length}
 use Rattle.memory.specs.Reading.{state_of}
 use Rattle.memory.specs.Memory.{sound_bytes, Left}
 use Rattle.image.specs.Image.{image_of}
 use Rattle.image.specs.Reading.{image_state}
+
+abbrev pub leaving : {A : Type 0} → Answer A → List ℕ → Left A
+leaving a b = record { answer = a; bytes = b }
 
 pub record Parked : Type 0 where
   pub answer : Answer ℕ

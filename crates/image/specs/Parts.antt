@@ -1,6 +1,10 @@
 -- Numbers side by side in bytes, each with its highest byte first: what an image is made of, written and read.
 use Rattle.std.specs.Prelude.{ℕ, zero, suc, ◌+◌, ◌*◌, ◌/◌, ◌%◌, ◌^◌, List, [], ◌∷◌, ◌++◌, map, get_or, drop}
-unfoldable pub use Rattle.octets.specs.Number.{high_first}
+
+-- the k lowest bytes of a number, the highest of them first: "Big-endian"
+unfoldable pub high_first : ℕ → ℕ → List ℕ
+high_first zero n = []
+high_first (suc k) n = (n / 256 ^ k % 256) ∷ high_first k n
 
 -- the number that the first k bytes are. (Past the last byte 0 is read, so reading is defined on any bytes.)
 unfoldable pub as_number : ℕ → List ℕ → ℕ

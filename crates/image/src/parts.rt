@@ -1,4 +1,4 @@
-// Numbers put into a buffer at a place. Each function answers the place behind what it put.
+// Numbers and bytes put into a buffer at a place. Each function answers the place behind what it put.
 ghost use Rattle.std.specs.Prelude.{◌≡◌, ◌+◌, ◌≤◌, length};
 ghost use Rattle.octets.specs.Writing.{Written};
 ghost use Rattle.image.specs.Parts.{high_first, parts_of, laid, span};
@@ -30,4 +30,17 @@ pub fn put_parts(buffer: &mut [u8], at: usize, widths: &[usize], numbers: &[u64]
         i += 1;
     }
     next
+}
+
+// Bytes as they are.
+pub fn put_bytes(buffer: &mut [u8], at: usize, bytes: &[u8]) -> usize
+    requires { at + length bytes.now ≤ length buffer.old }
+    ensures { Written buffer.old at bytes.now result buffer.new }
+{
+    let mut i = 0;
+    while i < bytes.len() {
+        buffer[at + i] = bytes[i];
+        i += 1;
+    }
+    at + i
 }

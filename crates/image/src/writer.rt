@@ -16,7 +16,7 @@ ghost use Rattle.image.specs.Reading.{newest};
 ghost use Rattle.image.specs.Parked.{parking, stored_base, park_on};
 ghost use Rattle.image.specs.Told.{park_told};
 
-use super::parts::put_parts;
+use super::parts::{put_bytes, put_parts};
 use super::{ParkAnswer, RECORD_BYTES};
 use answers::Refusal;
 use memory::heads::{load_head, waiting_of};
@@ -24,7 +24,6 @@ use memory::layout::{BASE, EDITION, ROWS};
 use memory::point::{is_parked, load_order, load_scan};
 use memory::records::{first_of, load_record};
 use memory::rows::row_count;
-use octets::writing::put_bytes;
 use rules::SLOTS;
 use soundness::check;
 

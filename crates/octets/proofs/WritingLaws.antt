@@ -5,8 +5,8 @@ use Prim.Native.Nat.{ℕ, ◌+◌, ◌≤◌, ◌<◌}
 use native.Mathlib.Nat.{add-zero}
 use native.Mathlib.Numerals.{add-one}
 use native.Mathlib.Omega.{arith}
-use lib.ListN.{length, get_or, take, drop, set, length-append, length-drop, take-append-drop}
-use lib.Seq.{length-take-le, take_at, take-suc, drop_at, drop-drop, set_split}
+use lib.ListN.{length, take, drop, set, length-append, length-drop, take-append-drop}
+use lib.Seq.{length-take-le, take_at, drop_at, drop-drop, set_split}
 use Rattle.octets.specs.Writing.{written, Written}
 
 -- no byte
@@ -77,15 +77,3 @@ then-written {s} {at} {a} {p} {o} {b} W h X =
 -- the lent bytes keep their number
 pub kept-length : {s : List ℕ} {at : ℕ} {a : List ℕ} {p : ℕ} {o : List ℕ} → Written s at a p o → at + length a ≤ length s → length o ≡ length s
 kept-length {s} {at} {a} W h = ap length W.buffer ∙ length-written s at a h
-
--- ---- bytes as they are: one more of them
-
-pub bytes-turn : {b : List ℕ} {o : List ℕ} (at : ℕ) (bytes : List ℕ) (i : ℕ) → Written b at (take i bytes) (at + i) o → at + length bytes ≤ length b → i < length bytes
-    → Written b at (take (i + 1) bytes) (at + (i + 1)) (set o (at + i) (get_or bytes i 0))
-bytes-turn {b} {o} at bytes i W room l =
-    let size : length (take i bytes) ≡ i = length-take-le i bytes (omega arith) in
-    let len : length o ≡ length b = kept-length W (omega arith) in
-    let next = then-written W (omega arith) (byte-written o (at + i) (get_or bytes i 0) (omega arith)) in
-    let e : take (i + 1) bytes ≡ take i bytes ++ get_or bytes i 0 ∷ [] = ap (λ (n : ℕ). take n bytes) (add-one i) ∙ take-suc bytes i 0 l in
-    let p : at + (i + 1) ≡ at + i + 1 = omega arith in
-    rw (e, p) next

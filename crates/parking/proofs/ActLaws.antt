@@ -50,9 +50,9 @@ module _ (image b : List ℕ) where
       go true l false g = stays bad_image
       go false l u g = stays unsound
 
-  pub read-good : sound_image image ≡ true → length b ≡ memory_length → read_on image b ≡ leaving (given tt) (memory_of (state_read image))
+  pub read_good : sound_image image ≡ true → length b ≡ memory_length → read_on image b ≡ leaving (given tt) (memory_of (state_read image))
   unfolding read_on image_state
-  read-good g l = rw (eq-eqb (length b) memory_length l, g) refl
+  read_good g l = rw (eq-eqb (length b) memory_length l, g) refl
 
   read-sound : sound_bytes b ≡ true → sound_bytes (read_on image b).bytes ≡ true
   read-sound e = by_reading (λ x. sound_bytes x.bytes ≡ true) (λ n. e) (λ g l. sound-memory (sound-image image g).state)

@@ -27,7 +27,7 @@ use Rattle.uplink.specs.Lent.{LapsedOn, waiting_on}
 use Rattle.uplink.proofs.Runs.{start-fresh}
 use Rattle.image.proofs.Images.{sound-image}
 use Rattle.parking.specs.Acts.{Act, to_call, to_park, to_unpark, step_by, run_by, along_by, ActsInRange, begins, NoBeginning, first_taken, first_ticket}
-use Rattle.parking.proofs.ActLaws.{read-good, act_length}
+use Rattle.parking.proofs.ActLaws.{read_good, act_length}
 use Rattle.parking.proofs.Histories.{records-from-by, serials-from-by, Refused, old_refused-by}
 
 -- ---- the memory at a beginning
@@ -61,7 +61,7 @@ module _ (b : List ℕ) (l : length b ≡ memory_length) where
   begun-read : (image : List ℕ) → begins (to_unpark image) ≡ true → Begun (step_by b (to_unpark image)) (to_unpark image)
   begun-read image q =
       let S = (sound-image image q).state in
-      subst (λ (x : Left (Unit {0})). Begun x.bytes (to_unpark image)) (sym (read-good image b q l))
+      subst (λ (x : Left (Unit {0})). Begun x.bytes (to_unpark image)) (sym (read_good image b q l))
       (record { sound = sound-memory S; waits = λ i t. ap (waiting i t) (sound-state S); ticket = λ i. ap (ticket_of i) (sound-state S) })
 
   pub begun : (a : Act) → begins a ≡ true → Begun (step_by b a) a

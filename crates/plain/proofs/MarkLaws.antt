@@ -48,21 +48,21 @@ marks_test : (m : List ℕ) (p : ℕ → Bool) (rows : List ℕ) → ((j : ℕ) 
 marks_test m p rows h = from_test (λ i. get_or m i 0) p 0 rows (λ j l. ap (λ (k : ℕ). eqb (get_or m k 0) 1) (omega arith) ∙ h j l)
 
 -- the marks of a mask, and those of a column
-pub marks-mask : (m rows : List ℕ) (mask : ℕ) → ((j : ℕ) → j < length rows → get_or m j 0 ≡ bit (get_or rows j 0) mask) → marks_in m rows ≡ in_mask mask rows
-marks-mask m rows mask h = marks_test m (λ r. eqb (bit r mask) 1) rows (λ j l. ap (λ (v : ℕ). eqb v 1) (h j l))
+pub marks_mask : (m rows : List ℕ) (mask : ℕ) → ((j : ℕ) → j < length rows → get_or m j 0 ≡ bit (get_or rows j 0) mask) → marks_in m rows ≡ in_mask mask rows
+marks_mask m rows mask h = marks_test m (λ r. eqb (bit r mask) 1) rows (λ j l. ap (λ (v : ℕ). eqb v 1) (h j l))
 
-pub marks-column : (f : ℕ → ℕ) (rows m x : List ℕ) (n c : ℕ) → length rows ≡ n → Marked f rows n x → c < columns
+pub marks_column : (f : ℕ → ℕ) (rows m x : List ℕ) (n c : ℕ) → length rows ≡ n → Marked f rows n x → c < columns
     → Listed x c n m → marks_in m rows ≡ column_of f rows c
 unfolding column_of Listed
-marks-column f rows m x n c count marked low h =
+marks_column f rows m x n c count marked low h =
     marks_test m (λ r. eqb (bit c (f r)) 1) rows
     (λ j l. ap (λ (v : ℕ). eqb v 1) (h j (omega arith) ∙ marked-at f rows n x marked c j low (omega arith)))
 
 -- of a memory, of whose rows the code has read the number n
-pub column-marks : (b m x : List ℕ) {n c : ℕ} → MatrixOf b x → n ≡ row_count_at b → c < columns → Listed x c n m
+pub column_marks : (b m x : List ℕ) {n c : ℕ} → MatrixOf b x → n ≡ row_count_at b → c < columns → Listed x c n m
     → marks_in m (state_of b).rows ≡ column_of (weights (state_of b).channels) (state_of b).rows c
-column-marks b m x {n} {c} matrix e low h =
-    marks-column (weights (state_of b).channels) (state_of b).rows m x (row_count_at b) c (rows-length b) matrix.1 low (rw e at h)
+column_marks b m x {n} {c} matrix e low h =
+    marks_column (weights (state_of b).channels) (state_of b).rows m x (row_count_at b) c (rows-length b) matrix.1 low (rw e at h)
 
 -- ---- one row after the other
 
@@ -115,8 +115,8 @@ from-same f g i (r ∷ rows) h =
     ap₂ (λ (b : Bool) (xs : List ℕ). keep_if b r xs) (ap (λ (v : ℕ). eqb v 1) (h i (omega arith))) (from-same f g (suc i) rows (λ j l. h j (omega arith)))
 
 -- no row has a mark
-pub marks-none : (m rows : List ℕ) (n r : ℕ) → length rows ≡ n → First m n r → n ≤ r → marks_in m rows ≡ []
-marks-none m rows n r count first l =
+pub marks_none : (m rows : List ℕ) (n r : ℕ) → length rows ≡ n → First m n r → n ≤ r → marks_in m rows ≡ []
+marks_none m rows n r count first l =
     passed (λ i. get_or m i 0) rows r (omega (arith, first.most)) first.before ∙ from_end (λ i. get_or m i 0) rows r (omega arith)
 
 -- where there are marked rows there is a first mark
@@ -124,12 +124,12 @@ pub some_first : (m rows : List ℕ) (n r : ℕ) → length rows ≡ n → First
 some_first m rows n r count first some-there = go (leb n r) refl
   where
     go : (t : Bool) → leb n r ≡ t → r < n
-    go true q = absurd (true≢false (sym (ap is_empty (marks-none m rows n r count first (leb-true n r q))) ∙ some-there))
+    go true q = absurd (true≢false (sym (ap is_empty (marks_none m rows n r count first (leb-true n r q))) ∙ some-there))
     go false q = leb-false n r q
 
 -- the first row with a mark comes first, then the rows marked without it
-pub marks-first : (m rows : List ℕ) (n r : ℕ) → length rows ≡ n → n ≤ length m → First m n r → r < n → marks_in m rows ≡ get_or rows r 0 ∷ marks_in (set m r 0) rows
-marks-first m rows n r count size first l =
+pub marks_first : (m rows : List ℕ) (n r : ℕ) → length rows ≡ n → n ≤ length m → First m n r → r < n → marks_in m rows ≡ get_or rows r 0 ∷ marks_in (set m r 0) rows
+marks_first m rows n r count size first l =
     passed f rows r (omega arith) first.before
     ∙ from_step f rows r (omega arith)
     ∙ ap (λ (b : Bool). keep_if b (get_or rows r 0) (marked_from f (suc r) (drop (suc r) rows))) (first.here l)

@@ -79,8 +79,8 @@ module _ (image : List ℕ) (v : ℕ) (version : v ≡ get_or image 0 0) where
 
   module _ (m : List ℕ) (built : (s : State) → Sound s → s.parked ≡ false → image ≡ image_of v s → m ≡ memory_of s) where
     -- a good image's memory is sound, and its image is these bytes
-    good-memory : (s : State) → Image v s image → (sound_bytes m ≡ true) × (state_of m ≡ s)
-    good-memory s I =
+    good_memory : (s : State) → Image v s image → (sound_bytes m ≡ true) × (state_of m ≡ s)
+    good_memory s I =
         let e : m ≡ memory_of s = built s I.state I.unmarked I.bytes in
         (rw e (sound-memory I.state), rw e (sound-state I.state))
 
@@ -94,7 +94,7 @@ module _ (image : List ℕ) (v : ℕ) (version : v ≡ get_or image 0 0) where
 
     pub received-unsound : sound_bytes m ≡ false → Received image false m
     received-unsound h =
-        record { received = no_image image (λ w s I. absurd (false≢true (sym h ∙ (good-memory s (of_version w s I)).0))) }
+        record { received = no_image image (λ w s I. absurd (false≢true (sym h ∙ (good_memory s (of_version w s I)).0))) }
 
     pub received-sound : known v ≡ true → sound_bytes m ≡ true → (t : Bool) → t ≡ same (image_of v (state_of m)) image → Received image t m
     received-sound k h true e =
@@ -105,7 +105,7 @@ module _ (image : List ℕ) (v : ℕ) (version : v ≡ get_or image 0 0) where
       where
         bad : (w : ℕ) (s : State) → Image v s image → ⊥
         bad w s I =
-            let again : image_of v (state_of m) ≡ image = ap (image_of v) (good-memory s I).1 ∙ sym I.bytes in
+            let again : image_of v (state_of m) ≡ image = ap (image_of v) (good_memory s I).1 ∙ sym I.bytes in
             false≢true (e ∙ rw again (true_same image))
 
 -- ---- the reader's three ways out
@@ -119,9 +119,9 @@ module _ (image b : List ℕ) where
   unfolding read_on
   read-bad e R = rw (eq-eqb (length b) memory_length e, R.received)
 
-  pub read-good : {m after : List ℕ} {n : ℕ} → length b ≡ memory_length → length m ≡ memory_length → Received image true m → Written b 0 m n after → leaving (given tt) after ≡ read_on image b
+  pub read_good : {m after : List ℕ} {n : ℕ} → length b ≡ memory_length → length m ≡ memory_length → Received image true m → Written b 0 m n after → leaving (given tt) after ≡ read_on image b
   unfolding read_on
-  read-good {m} {after} e size R W =
+  read_good {m} {after} e size R W =
       let (s, S, reads, memory) = R.received in
       let le : length b ≤ 0 + length m = omega arith in
       let none_left : drop (0 + length m) b ≡ [] = drop_of_length-le b le in

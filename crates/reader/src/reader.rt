@@ -18,9 +18,9 @@ use super::notes::note_all;
 use super::taking::byte_at;
 use answers::Refusal;
 use image::RECORD_BYTES;
+use image::parts::put_bytes;
 use image::writer::{length_of, put_image};
 use memory::layout::{BASE, CELLS, LENGTH};
-use octets::writing::put_bytes;
 use rules::SLOTS;
 use soundness::check;
 

@@ -5,7 +5,7 @@ use Prim.Native.Nat.{ℕ, zero, suc, ◌+◌, ◌^◌, ◌≤◌, ◌<◌}
 use native.Mathlib.Omega.{arith}
 use lib.Dec.{lit<}
 use lib.ListN.{length, get_or}
-use Rattle.answers.specs.Answer.{Refusal, no_slot, not_present, at_closing, bad_length, full, bad_weight, none_free, none_waits, unsound, no_term, bad_edition, no_shared, parked, bad_image, short_buffer, too_many, bad_frame, number_of, Answer}
+use Rattle.answers.specs.Answer.{Refusal, no_slot, not_present, at_closing, bad_length, full, bad_weight, none_free, none_waits, unsound, no_term, bad_edition, no_shared, parked, bad_image, short_buffer, too_many, number_of, Answer}
 use Rattle.memory.specs.Memory.{Left}
 use Rattle.uplink.specs.Told.{leaving}
 use Rattle.octets.specs.Writing.{written}
@@ -40,7 +40,6 @@ number_small parked = lit< tt
 number_small bad_image = lit< tt
 number_small short_buffer = lit< tt
 number_small too_many = lit< tt
-number_small bad_frame = lit< tt
 
 module _ (letter : ℕ) (ns : List ℕ) (small : Small ns) (few : length ns ≤ 7) where
   -- a letter and at most seven numbers

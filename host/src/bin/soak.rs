@@ -1,16 +1,13 @@
 //! Compared runs for as long as asked.
 //!
-//! `soak [calls N | seconds N] [seed N]`: the exported libraries with feature `linked`, support's engine beside the adapter's, else the model engine. Between histories
-//! come frames and offices. Prints the calls compared and calls per second; a difference is printed with the shortest history found, and the result is 1.
+//! `soak [calls N | seconds N] [seed N]`: the exported libraries with feature `linked`, support's engine beside the adapter's, else the model engine. Prints the calls
+//! compared and calls per second; a difference is printed with the shortest history found, and the result is 1.
 
 use std::env;
 use std::process::ExitCode;
 use std::time::{Duration, Instant};
 
-use host::arrivals;
 use host::compare::run_seeds;
-use host::counting::compare;
-use host::random::Random;
 
 #[cfg(feature = "linked")]
 const NAME: &str = "the exported libraries";
@@ -32,9 +29,9 @@ fn main() -> ExitCode {
         return ExitCode::from(2);
     };
     #[cfg(feature = "linked")]
-    let (mut engine, mut counting) = (host::linked::both(), host::linked::LINKED);
+    let mut engine = host::linked::both();
     #[cfg(not(feature = "linked"))]
-    let (mut engine, mut counting) = (host::model::Model, host::model::Model);
+    let mut engine = host::model::Model;
     let begin = Instant::now();
     // Each stretch has its own range of seeds.
     let (mut compared, mut seed) = (0, wanted.seed);
@@ -43,14 +40,6 @@ fn main() -> ExitCode {
             Ok(calls) => compared += calls,
             Err(report) => {
                 print!("{report}");
-                return ExitCode::FAILURE;
-            }
-        }
-        let frames = arrivals::some(&mut Random::new(seed));
-        match compare(&mut counting, &frames) {
-            Ok(calls) => compared += calls as u64,
-            Err(difference) => {
-                println!("# difference after {compared} calls, seed {seed}, shape: frames and the office\n# {difference}");
                 return ExitCode::FAILURE;
             }
         }

@@ -43,14 +43,6 @@ pub fn functions(text: &str) -> Vec<Function> {
     found.into_iter().map(|(_, function)| function).collect()
 }
 
-/// The C entries of a crate, wherever in it they stand, the files by name.
-pub fn entries_of(name: &str) -> Vec<Function> {
-    let mut files: Vec<PathBuf> = fs::read_dir(crates().join(name).join("src")).unwrap().map(|entry| entry.unwrap().path()).collect();
-    files.sort();
-    let texts = files.iter().map(|path| fs::read_to_string(path).unwrap());
-    texts.flat_map(|text| functions(&text)).filter(|function| function.exported).collect()
-}
-
 /// A function from its name on.
 fn function(head: &str, text: &str) -> Function {
     let (name, rest) = text.split_once('(').expect("a function has parameters");

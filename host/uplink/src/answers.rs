@@ -70,20 +70,3 @@ pub struct Filling {
     pub slot: u32,
     pub bytes: u32,
 }
-
-/// What a frame says, and its record.
-#[derive(Clone, Copy, Debug, PartialEq, Eq, Hash)]
-pub struct Contents<'a> {
-    pub slot: u32,
-    pub ticket: u32,
-    pub serial: u16,
-    pub record: &'a [u8],
-}
-
-/// What the office answers to a frame.
-#[derive(Clone, Copy, Debug, PartialEq, Eq, Hash)]
-pub struct Taken<'a> {
-    pub contents: Contents<'a>,
-    /// How many were lost before it; none for a late repeat, which changes nothing.
-    pub lost: Option<u32>,
-}

@@ -1,7 +1,7 @@
-//! The C entries, as include/uplink.h and include/office.h declare them.
+//! The C entries, as include/uplink.h declares them.
 //!
 //! The result of each is its number: 0 where it was accepted, else a refusal's. A length is that of the slice that the pointer before it leads
-//! to; state, image, lists, record, frame, office and answer must not overlap, and are lent for the call alone.
+//! to; state, image, lists and answer must not overlap, and are lent for the call alone.
 
 extern "C" {
     pub fn uplink_start(state: *mut u8, state_length: usize, edition: u32) -> u32;
@@ -36,27 +36,6 @@ extern "C" {
         weights_length: usize,
         rows: *const u32,
         rows_length: usize,
-        answer: *mut u8,
-        answer_length: usize,
-    ) -> u32;
-    pub fn uplink_frame(
-        slot: u32,
-        ticket: u32,
-        serial: u16,
-        record: *const u8,
-        record_length: usize,
-        frame: *mut u8,
-        frame_length: usize,
-        answer: *mut u8,
-        answer_length: usize,
-    ) -> u32;
-    pub fn uplink_unframe(frame: *const u8, frame_length: usize, answer: *mut u8, answer_length: usize) -> u32;
-    pub fn office_start(office: *mut u8, office_length: usize) -> u32;
-    pub fn office_take(
-        office: *mut u8,
-        office_length: usize,
-        frame: *const u8,
-        frame_length: usize,
         answer: *mut u8,
         answer_length: usize,
     ) -> u32;

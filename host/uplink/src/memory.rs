@@ -173,7 +173,7 @@ pub fn sheet(weights: &[u32], rows: &[u32]) -> Result<Sheet, Refusal> {
 }
 
 /// The answer of an accepted call. The entries give no number outside the table; one that did could not be trusted, so it reads as 10.
-pub(crate) fn accepted<A>(number: u32, answer: A) -> Result<A, Refusal> {
+fn accepted<A>(number: u32, answer: A) -> Result<A, Refusal> {
     match number {
         0 => Ok(answer),
         _ => Err(Refusal::from_number(number).unwrap_or(Refusal::Unsound)),
@@ -181,6 +181,6 @@ pub(crate) fn accepted<A>(number: u32, answer: A) -> Result<A, Refusal> {
 }
 
 /// A field of an answer buffer: 4 bytes, lowest first.
-pub(crate) fn field(answer: &[u8], number: usize) -> u32 {
+fn field(answer: &[u8], number: usize) -> u32 {
     answer.iter().skip(4 * number).take(4).rev().fold(0, |value, &byte| value << 8 | u32::from(byte))
 }

@@ -34,17 +34,15 @@ pub enum Refusal {
     Parked = 14,
     /// Not exactly the image of one sound state.
     BadImage = 15,
-    /// The buffer is too short for the image or the frame.
+    /// The buffer is too short for the image.
     ShortBuffer = 16,
     /// More than 64 weights on a round sheet.
     TooMany = 17,
-    /// No frame: cut short, bytes left over, another version, slot above 63, ticket 0 or a record of no length or above 1,014.
-    BadFrame = 20,
 }
 
 impl Refusal {
     /// Every refusal, by its number.
-    pub const ALL: [Refusal; 17] = [
+    pub const ALL: [Refusal; 16] = [
         Refusal::NoSlot,
         Refusal::NotPresent,
         Refusal::AtClosing,
@@ -61,7 +59,6 @@ impl Refusal {
         Refusal::BadImage,
         Refusal::ShortBuffer,
         Refusal::TooMany,
-        Refusal::BadFrame,
     ];
 
     /// The number that the call gave.
@@ -93,9 +90,8 @@ impl fmt::Display for Refusal {
             Refusal::NoShared => "no shared cell left",
             Refusal::Parked => "state is parked",
             Refusal::BadImage => "not the image of a state",
-            Refusal::ShortBuffer => "buffer too short",
+            Refusal::ShortBuffer => "buffer too short for the image",
             Refusal::TooMany => "more than 64 weights",
-            Refusal::BadFrame => "not a frame",
         })
     }
 }

@@ -1,7 +1,7 @@
-//! How long the exported calls take: `bench [--sheets | --frames | --beside path/to/another/libdriver.a]`. Prints tables; docs/SPEED.md has the first, of edition 1, and its picture
+//! How long the exported calls take: `bench [--sheets | --beside path/to/another/libdriver.a]`. Prints tables; docs/SPEED.md has the first, of edition 1, and its picture
 //! is drawn from there. The second is the same of edition 2, the third has single Nexts where edition 2 holds the order. The fourth has Next and Put of support's
 //! engine (include/plain.h) beside the adapter's, the fifth the two calls of parked queues beside a Next, the sixth Ask and Fullest beside the check,
-//! then checks of round sheets, each beside one pass over its list (`--sheets`: that one alone), and frames (`--frames`).
+//! the last checks of round sheets, each beside one pass over its list (`--sheets`: that one alone).
 //!
 //! All columns are measured in turn in the same run and are medians over many batches, so that their ratios mean something on any machine:
 //! - call: Next and Put in pairs, so that the fill stays the same, per call;
@@ -15,7 +15,6 @@
 //! before document 02, §3, which knows no edition, is measured in edition 1. One from before §4 is lent the same records in planes of its own 1,024 cells; a
 //! fill of more than 16 a channel is not held by it. One from before §7 is lent the memory without its notes.
 
-mod frames;
 mod sheets;
 mod side;
 
@@ -54,10 +53,6 @@ fn main() -> ExitCode {
     let mut archives = vec![OWN];
     match &words.iter().map(String::as_str).collect::<Vec<_>>()[..] {
         [] => {}
-        ["--frames"] => {
-            print!("{}", frames::table());
-            return ExitCode::SUCCESS;
-        }
         ["--sheets"] => {
             print!("{}", sheets::table());
             return ExitCode::SUCCESS;
@@ -70,7 +65,7 @@ fn main() -> ExitCode {
             }
         },
         _ => {
-            eprintln!("bench [--sheets | --frames | --beside path/to/another/libdriver.a]");
+            eprintln!("bench [--sheets | --beside path/to/another/libdriver.a]");
             return ExitCode::from(2);
         }
     }
@@ -87,7 +82,6 @@ fn main() -> ExitCode {
     print!("\n{}", parked());
     print!("\n{}", asked());
     print!("\n{}", sheets::table());
-    print!("\n{}", frames::table());
     if archives.len() > 1 {
         println!("\nthe linked archive and the one beside it, and the linked one's time divided by the other's");
         for (edition, lines) in &of_editions {

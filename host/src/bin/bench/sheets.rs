@@ -28,7 +28,7 @@ fn sheets() -> Vec<(&'static str, Vec<u32>)> {
 }
 
 /// Nanoseconds of one repetition.
-pub fn timed(times: usize, mut repetition: impl FnMut()) -> f64 {
+fn timed(times: usize, mut repetition: impl FnMut()) -> f64 {
     let begin = Instant::now();
     (0..times).for_each(|_| repetition());
     begin.elapsed().as_nanos() as f64 / times as f64

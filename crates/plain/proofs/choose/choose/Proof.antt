@@ -6,7 +6,7 @@ use Rattle.memory.specs.Reading.{state_of}
 use Rattle.memory.proofs.SearchLaws.{rows-length}
 use Rattle.visits.proofs.ChoiceInNumbers.{rows_of, visit_open}
 use Rattle.plain.proofs.ChoiceLaws.{first-chosen, none-begins}
-use Rattle.plain.proofs.MarkLaws.{marks-none}
+use Rattle.plain.proofs.MarkLaws.{marks_none}
 use Rattle.plain.proofs.choose.choose.Statement.{statement}
 use Rattle.plain.proofs.choose.choose.Tie as tie
 
@@ -52,7 +52,7 @@ by-terms-requires : tie.Need-by-terms-requires
 by-terms-requires c κs =
     let b = c.before.before.before.before.before.before.before.before.before.before.args.state.now in
     let n = c.before.before.before.row_count.ensures.0 in
-    let none = marks-none _ (state_of b).rows _ _ (rows-length b ∙ sym n) c.before.first-marked.ensures (search rules) in
+    let none = marks_none _ (state_of b).rows _ _ (rows-length b ∙ sym n) c.before.first-marked.ensures (search rules) in
     none-begins c.before.before.before.before.before.before.before.before.before.before.requires c.before.before.before.before.before.before.before.before.load-order.ensures c.before.before.before.before.before.before.before.if1.false c.before.before.before.before.before.marks-of.ensures.1 none
 
 returns-3 : tie.Need-returns-3

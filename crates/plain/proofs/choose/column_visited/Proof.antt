@@ -8,7 +8,7 @@ use Rattle.lists.specs.Tests.{is_empty}
 use Rattle.memory.specs.Reading.{state_of}
 use Rattle.memory.proofs.SearchLaws.{rows-length}
 use Rattle.plain.specs.Places.{Starts}
-use Rattle.plain.proofs.MarkLaws.{column-marks, some_first}
+use Rattle.plain.proofs.MarkLaws.{column_marks, some_first}
 use Rattle.plain.proofs.choose.column_visited.Statement.{statement}
 use Rattle.plain.proofs.choose.column_visited.Tie as tie
 
@@ -39,14 +39,14 @@ first-visit-requires c κs =
     let b = c.before.before.before.before.before.before.before.before.before.before.args.state.now in
     let n = c.before.before.before.before.before.before.before.row_count.ensures.0 in
     let first = c.before.first-marked.ensures in
-    let listed = column-marks b _ _ P.1 n P.2.low c.before.before.before.before.column-listed.ensures.1 in
+    let listed = column_marks b _ _ P.1 n P.2.low c.before.before.before.before.column-listed.ensures.1 in
     (P.0, c.before.before.before.before.column-listed.ensures.0, rw n at first, rw n at (some_first _ (state_of b).rows _ _ (rows-length b ∙ sym n) first (ap is_empty listed ∙ P.2.found)))
 
 returns : tie.Need-returns
 returns c =
     let P = c.before.before.before.before.before.before.before.before.before.before.before.before.requires in
     let b = c.before.before.before.before.before.before.before.before.before.before.before.before.args.state.now in
-    let listed = column-marks b _ _ P.1 c.before.before.before.before.before.before.before.before.before.row_count.ensures.0 P.2.low c.before.before.before.before.before.before.column-listed.ensures.1 in
+    let listed = column_marks b _ _ P.1 c.before.before.before.before.before.before.before.before.before.row_count.ensures.0 P.2.low c.before.before.before.before.before.before.column-listed.ensures.1 in
     P.2.chosen _ (subst (λ (l : List ℕ). Starts c.before.before.before.before.before.before.before.before.before.before.before.before.args.found l c.before.first-visit.result) listed c.before.first-visit.ensures)
 
 pub column-visited-spec : {M : Type 1} → statement M

@@ -13,7 +13,7 @@ use Rattle.memory.proofs.SearchLaws.{rows-length}
 use Rattle.visits.specs.declared.choose.Chosen.{Chosen}
 use Rattle.plain.specs.declared.scan.Place.{Place}
 use Rattle.plain.specs.Marks.{marks_in}
-use Rattle.plain.proofs.MarkLaws.{marks-first}
+use Rattle.plain.proofs.MarkLaws.{marks_first}
 use Rattle.plain.proofs.choose.first_visit.Statement.{statement}
 use Rattle.plain.proofs.choose.first_visit.Tie as tie
 
@@ -53,7 +53,7 @@ returns c =
     record {
       first = get_or (state_of b).rows a.row 0;
       rest = marks_in (set m a.row 0) (state_of b).rows;
-      list_is = marks-first m (state_of b).rows (row_count_at b) a.row (rows-length b) (omega (arith, P.0.few, P.1)) P.2 P.3;
+      list_is = marks_first m (state_of b).rows (row_count_at b) a.row (rows-length b) (omega (arith, P.0.few, P.1)) P.2 P.3;
       chosen_is = visit-is a.place (marks_in (set m a.row 0) (state_of b).rows) c.before.before.before.before.row_at.ensures.0 c.before.before.noted.ensures c.mask-of.ensures;
     }
 

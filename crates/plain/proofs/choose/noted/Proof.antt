@@ -7,7 +7,7 @@ use borrow.Author.Rules.{rules}
 use Rattle.rules.specs.Next as rules
 use Rattle.memory.specs.Reading.{state_of}
 use Rattle.memory.proofs.SearchLaws.{rows-length}
-use Rattle.plain.proofs.MarkLaws.{marks-first, marks-none}
+use Rattle.plain.proofs.MarkLaws.{marks_first, marks_none}
 use Rattle.plain.proofs.choose.noted.Statement.{statement}
 use Rattle.plain.proofs.choose.noted.Tie as tie
 
@@ -23,7 +23,7 @@ returns c =
     let P = c.before.before.before.before.before.requires in
     let b = a.state.now in
     let n = c.before.before.row_count in
-    let listed = marks-first a.list.now (state_of b).rows n.result c.before.first-marked.result (rows-length b ∙ sym n.ensures.0) (omega (arith, P.0.few, P.1, n.ensures.0)) c.before.first-marked.ensures c.if1.true in
+    let listed = marks_first a.list.now (state_of b).rows n.result c.before.first-marked.result (rows-length b ∙ sym n.ensures.0) (omega (arith, P.0.few, P.1, n.ensures.0)) c.before.first-marked.ensures c.if1.true in
     sym (ap (λ (l : List ℕ). rules.noted l a.column) listed)
 
 returns-2 : tie.Need-returns-2
@@ -31,7 +31,7 @@ returns-2 c =
     let a = c.before.before.before.before.before.args in
     let b = a.state.now in
     let n = c.before.before.row_count in
-    let none = marks-none a.list.now (state_of b).rows n.result c.before.first-marked.result (rows-length b ∙ sym n.ensures.0) c.before.first-marked.ensures (search rules) in
+    let none = marks_none a.list.now (state_of b).rows n.result c.before.first-marked.result (rows-length b ∙ sym n.ensures.0) c.before.first-marked.ensures (search rules) in
     sym (ap (λ (l : List ℕ). rules.noted l a.column) none)
 
 pub noted-spec : {M : Type 1} → statement M

@@ -9,7 +9,7 @@ use Rattle.bits.specs.Bit.{bit}
 use Rattle.rules.specs.Numbers.{slots}
 use Rattle.memory.specs.Reading.{state_of}
 use Rattle.memory.proofs.SearchLaws.{rows-length}
-use Rattle.plain.proofs.MarkLaws.{set-turn, marks-mask}
+use Rattle.plain.proofs.MarkLaws.{set-turn, marks_mask}
 use Rattle.plain.proofs.list.marks_of.Statement.{statement}
 use Rattle.plain.proofs.list.marks_of.Tie as tie
 
@@ -63,7 +63,7 @@ returns c =
     let l = c.before.loop in
     let start = c.before.before.before.before.before in
     let b = start.args.state.now in
-    (l.invariant.1, marks-mask l.list (state_of b).rows start.args.mask (λ j h. l.invariant.2 j (omega (arith, rows-length b))))
+    (l.invariant.1, marks_mask l.list (state_of b).rows start.args.mask (λ j h. l.invariant.2 j (omega (arith, rows-length b))))
 
 pub marks-of-spec : {M : Type 1} → statement M
 marks-of-spec =

@@ -1,7 +1,7 @@
 -- The length, then the image, and only then the lent bytes.
 use Rattle.std.proofs.Common.{◌≡◌, true, false, rules}
 use borrow.Author.Tests.{not-true, not-false}
-use Rattle.reader.proofs.ReaderLaws.{read-wrong, read-bad, read-good}
+use Rattle.reader.proofs.ReaderLaws.{read-wrong, read-bad, read_good}
 use Rattle.reader.proofs.reader.unpark.Statement.{statement}
 use Rattle.reader.proofs.reader.unpark.Tie as tie
 
@@ -37,7 +37,7 @@ returns-3 c =
     let a = c.before.before.before.before.before.before.before.before.before.before.before.before.args in
     let made = c.before.before.before.before.before.before.before.receive in
     let e : made.result ≡ true = not-false made.result c.before.before.before.before.before.if2.false in
-    read-good a.image.now a.state.now c.before.before.before.before.before.before.before.before.before.if1.false made.auto.0 (rw e at made.ensures)
+    read_good a.image.now a.state.now c.before.before.before.before.before.before.before.before.before.if1.false made.auto.0 (rw e at made.ensures)
     c.before.before.put-bytes.ensures
 
 pub unpark-spec : {M : Type 1} → statement M
