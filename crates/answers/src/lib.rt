@@ -2,6 +2,8 @@
 //
 // "Numbers sent back" of document 01 stand here once: as definitions (specs/Answer.antt), as an enum of the code, and as the one function that gives a
 // refusal of the code its number.
+#![tactic(auto)]
+
 ghost use Rattle.std.specs.Prelude.{◌≡◌};
 ghost use Rattle.answers.specs.Answer.{number_of};
 ghost use Rattle.answers.specs.Told.{refusal_told};

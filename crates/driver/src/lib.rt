@@ -3,6 +3,8 @@
 // An entry is lent the state and an answer buffer. It asks for the buffer's length, calls the proved function of the same name, and puts what that
 // answers into the buffer and the number. One contract for all, without a `requires`: the number, the state left and the buffer left are what `entered`
 // says of the rules' own call. `rt staticlib driver` exports only this crate's functions, which is why they stand by themselves.
+#![tactic(auto)]
+
 ghost use Rattle.std.specs.Prelude.{◌≡◌, []};
 ghost use Rattle.spread.specs.Calls.{term_call, lead_call};
 ghost use Rattle.rules.specs.Calls.{open_call, put_call, close_call, ask_call, fullest_call};

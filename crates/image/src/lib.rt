@@ -3,6 +3,8 @@
 // An image is parts side by side: a number each, in so many bytes. A version is a choice of widths, so one loop writes the parts of a head, of a slot's
 // entry and of a record in every version. specs/ says what an image is, and which state any bytes stand for; proofs/ shows that reading what was written
 // gives the same state, and that each sound state has one image. It is of the memory's base alone.
+#![tactic(auto)]
+
 use answers::Refusal;
 
 pub mod parts; // parts.rt: numbers in bytes, put into a buffer at a place

@@ -4,6 +4,8 @@
 // memory before the line's call (page::under). The whole is `output_with` of crate page, and without the lines that begin with `|` it is lift's output
 // (`lift-left`, page/proofs/BarredLines.antt). Not proved: that these bytes, one after the other, are what is written, and that those read are the input. A
 // read that fails counts as the end of the input, and a write that fails ends the program.
+#![tactic(auto)]
+
 ghost use Rattle.std.specs.Prelude.{◌≤◌, length};
 ghost use Rattle.text.specs.Lines.{line_after};
 

@@ -2,6 +2,8 @@
 //
 // specs/Page.antt says what a page is, line by line; the contracts here say that exactly those bytes are put. The choice is made by the plain engine, and the
 // cells are those of its matrix.
+#![tactic(auto)]
+
 ghost use Rattle.std.specs.Prelude.{◌≡◌, false, ◌+◌, ◌^◌, ◌≤◌, ◌<◌, length};
 ghost use Rattle.lists.specs.Tests.{is_empty};
 ghost use Rattle.spread.specs.Limits.{columns};

@@ -3,6 +3,7 @@
 // The matrix of columns over rows is filled from the lent memory and read in joining order; the order is found by looking for the highest column that is not
 // empty; terms come one after the other from the table of S(12). The contracts are the linked engine's own, so for every lent memory the answers and the bytes
 // are the same (proofs/SameAsUplink.antt).
+#![tactic(auto)]
 
 pub mod matrix; // matrix.rt: the matrix, filled and read
 pub mod list; // list.rt: the rows still to visit, a mark each

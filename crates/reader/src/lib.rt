@@ -3,6 +3,8 @@
 // One loop reads the parts of a head, of a slot's entry and of a record in every version. The image is of the memory's base alone: the reader works the
 // notes out. What an image is, and which state any bytes stand for, is image's to say; specs/ has what is known while a memory is built from one, and
 // proofs/ shows that of a sound state's image it becomes that state's memory.
+#![tactic(auto)]
+
 use answers::Refusal;
 
 pub mod taking; // taking.rt: numbers in bytes, taken from a place of any bytes

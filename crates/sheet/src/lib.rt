@@ -3,6 +3,8 @@
 // The rows of each column are written once into a line of their own. Then the round is walked position by position: the line of its column is held
 // against the list, place by place, and the walk ends at the first wrong place. So the time is by the shorter of list and round and by the positions,
 // never by rows that are not visited. Nothing is allocated, and a list may have any length and any numbers.
+#![tactic(auto)]
+
 ghost use Rattle.std.specs.Prelude.{◌≡◌, ◌-◌, ◌*◌, ◌^◌, ◌≤◌, ◌<◌, length, get_or};
 ghost use Rattle.bits.specs.Bit.{bit};
 ghost use Rattle.spread.specs.Limits.{outside};

@@ -2,6 +2,8 @@
 //
 // An archive of its own (`rt staticlib support`): the adapter's must not hold the table of terms (document 02, §2). The contracts are those of `uplink_put` and
 // `uplink_next`, so numbers, answers and states are theirs, for any bytes lent.
+#![tactic(auto)]
+
 ghost use Rattle.std.specs.Prelude.{◌≡◌};
 ghost use Rattle.rules.specs.Calls.{put_call};
 ghost use Rattle.rules.specs.Next.{next_call};

@@ -2,6 +2,8 @@
 // (spread::term) and does not link this crate.
 //
 // A caller copies the table once, keeps the copy in a local and looks its terms up there, one after the other.
+#![tactic(auto)]
+
 ghost use Rattle.std.specs.Prelude.{◌≡◌, ◌^◌, ◌≤◌, ◌<◌};
 ghost use Rattle.spread.specs.Sequence.{spread, term};
 ghost use Rattle.terms.specs.Table.{table_order};

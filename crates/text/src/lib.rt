@@ -4,6 +4,7 @@
 // input (`Answers.lift`); proofs/ShownCommands.antt shows that the commands read are exactly the lines of the four forms. `reader::line_at` reads the
 // line at a place, `answer::answer_line` answers it over the lent memory, and `program::run` answers a whole input: its output is `lift` of it, and
 // proofs/RuledOutput.antt shows (`lift-ruled`) that this is what the rules say, with document 01's listing.
+#![tactic(auto)]
 
 pub mod decimal; // decimal.rt: a plain decimal at a place of a text
 pub mod lines; // lines.rt: where a line ends
