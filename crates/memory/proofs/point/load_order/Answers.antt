@@ -1,0 +1,8 @@
+-- The byte read is the order by definition.
+use mathlib.Core.Path.{refl}
+use Rattle.memory.specs.Reading.{state_of}
+use Rattle.memory.proofs.point.load_order.Goals as goal
+
+pub returns : goal.returns
+unfolding state_of
+returns c = refl

@@ -1,0 +1,19 @@
+-- Each turn adds one slot's weight, if it is a row, to the union of those before it.
+use Prim.Native.Nat.{◌≤◌, ◌-◌}
+use mathlib.Core.Path.{◌≡◌, refl}
+use native.Mathlib.Omega.{arith}
+use borrow.Author.Rules.{rules}
+use Rattle.rules.specs.Numbers.{slots}
+use Rattle.memory.specs.Search.{union}
+use Rattle.memory.proofs.UnionOfRows.{union-turn}
+use Rattle.memory.proofs.search.union_of.Goals as goal
+
+pub loop-s-init : goal.loop-s-init
+unfolding union
+loop-s-init c = (search rules, refl)
+
+pub loop-s-preserved : goal.loop-s-preserved
+loop-s-preserved c = (search rules, union-turn _ _ _ _ _ c.loop-s.invariant.1 c.load_weight.ensures c.row_weight-all.ensures)
+
+pub returns : goal.returns
+returns c = let e : c.loop-s.s ≡ slots = omega arith in rw e at c.loop-s.invariant.1
