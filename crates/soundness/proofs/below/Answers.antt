@@ -1,0 +1,17 @@
+-- Each turn adds the test of one row to those of the rows before it.
+use Rattle.std.proofs.Common.{◌≡◌, ◌-◌, ◌≤◌, refl, arith, rules}
+use Rattle.memory.specs.Names as the
+use Rattle.soundness.specs.Check.{all_below, below_rule}
+use Rattle.soundness.proofs.CheckTurns.{all-turn, all_end}
+use Rattle.soundness.proofs.below.Goals as goal
+
+pub loop-k-init : goal.loop-k-init
+unfolding all_below
+loop-k-init c = (search rules, refl)
+
+pub loop-k-preserved : goal.loop-k-preserved
+loop-k-preserved c = (search rules, all-turn _ _ _ _ c.loop-k.invariant.1 refl)
+
+pub returns : goal.returns
+unfolding below_rule
+returns c = let e : c.loop-k.k ≡ c.args.n = omega arith in all_end _ _ _ _ c.loop-k.invariant.1 e
