@@ -39,7 +39,7 @@ ended-edition (going_on e) = refl
 ended-edition (round-end o) = refl
 
 -- but for a Start, which leaves order 0
-made-edition : {s s' : State} {c : Call} {ms : List Moment} → Sound s → Made s c s' ms → (s'.edition ≡ s.edition) ⊎ (s'.order ≡ 0)
+made-edition : {s : State} {c : Call} {s' : State} {ms : List Moment} → Sound s → Made s c s' ms → (s'.edition ≡ s.edition) ⊎ (s'.order ≡ 0)
 unfolding fresh
 made-edition S (unserved q) = inl refl
 made-edition S (serving e N C E) =
@@ -47,7 +47,7 @@ made-edition S (serving e N C E) =
     inl
     (ended-edition E ∙ ap (λ (r : State). r.edition) (moved-send x.state x.slot N.head N.rest N.choice.visit N.still)
     ∙ settled-edition N.rest x.state x.slot _ ∙ N.choice.edition)
-made-edition {s} S (other {c} n) = go (other-call S c n)
+made-edition {s} {c} S (other n) = go (other-call S c n)
   where
     go : OtherCall s c (step s c) → ((step s c).edition ≡ s.edition) ⊎ ((step s c).order ≡ 0)
     go (quiet ed sc up alone) = inl ed
@@ -120,7 +120,7 @@ term-inside {b} {s} S e o B = go (held s) B.at-end
     go false (inl z) = let one = (term-position S e).0 in omega arith
     go false (inr z) = last-filled S e o z B.none_remain
 
-scanned-within : {s : State} {x : Chosen} {ms : List Moment} (n : ℕ) → Sound s → s.scan.visit ≡ none → is_empty s.rows ≡ false → s.order ≡ rows_order s
+scanned-within : {x : Chosen} {s : State} {ms : List Moment} (n : ℕ) → Sound s → s.scan.visit ≡ none → is_empty s.rows ≡ false → s.order ≡ rows_order s
     → (0 < n → Starts s → ⊥) → ScannedBy x s ms → MomentsWithin n s ms
 unfolding MomentsWithin moved
 scanned-within n S v e o inside (first-visit j rest t a b c) = (inside, tt)
@@ -139,8 +139,8 @@ ended-within n S (going_on e) = tt
 ended-within n S (round-end o) = (λ l B. over_inside S o B, tt)
 
 -- a call from a state with rows in which the order is theirs
-made-within : {s s' : State} {c : Call} {ms : List Moment} (n : ℕ) → Sound s → (is_empty s.rows ≡ false → s.order ≡ rows_order s) → (0 < n → Starts s → ⊥)
-    → Made s c s' ms → MomentsWithin n s ms
+made-within : {s : State} {c : Call} {s' : State} {ms : List Moment} (n : ℕ) → Sound s → (is_empty s.rows ≡ false → s.order ≡ rows_order s)
+    → (0 < n → Starts s → ⊥) → Made s c s' ms → MomentsWithin n s ms
 unfolding MomentsWithin
 made-within n S o inside (unserved q) = tt
 made-within {s} n S o inside (serving {choosing = choosing} {ends = ends} e N C E) =

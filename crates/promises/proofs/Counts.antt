@@ -37,11 +37,11 @@ pub record SameCount (f : State → Moment → ℕ) (a : Sent → ℕ) : Type 0 
   pub at-send : {s : State} (N : Served s) → before N.chosen + f N.chosen.state a_send ≡ counted a s to_next
 
 module _ {f : State → Moment → ℕ} {a : Sent → ℕ} (A : SameCount f a) where
-  scanned-total : {s : State} {x : Chosen} {ms : List Moment} → ScannedBy x s ms → moments_total f s ms ≡ A.before x
+  scanned-total : {x : Chosen} {s : State} {ms : List Moment} → ScannedBy x s ms → moments_total f s ms ≡ A.before x
   unfolding moments_total moved
-  scanned-total {s} {x} (first-visit i rest t e o g) = let z = A.at-visit s x i rest t e o in omega arith
-  scanned-total {s} (term-first t n later) = let z = A.no_term s in omega (arith, scanned-total later)
-  scanned-total {s} (last-term t o later) = let z = A.no_term s in let y = A.no_end (term_taken s) in omega (arith, scanned-total later)
+  scanned-total {x} {s} (first-visit i rest t e o g) = let z = A.at-visit s x i rest t e o in omega arith
+  scanned-total {s = s} (term-first t n later) = let z = A.no_term s in omega (arith, scanned-total later)
+  scanned-total {s = s} (last-term t o later) = let z = A.no_term s in let y = A.no_end (term_taken s) in omega (arith, scanned-total later)
 
   ended-total : {s s' : State} {ms : List Moment} → EndedBy s s' ms → moments_total f s ms ≡ 0
   unfolding moments_total
@@ -53,7 +53,7 @@ module _ {f : State → Moment → ℕ} {a : Sent → ℕ} (A : SameCount f a) w
   chosen-total {s} {x} (in-visit o g) = A.no_visit x o
   chosen-total (by-scan v way) = scanned-total way
 
-  pub made-total : {s s' : State} {c : Call} {ms : List Moment} → Sound s → Made s c s' ms → moments_total f s ms ≡ counted a s c
+  pub made-total : {s : State} {c : Call} {s' : State} {ms : List Moment} → Sound s → Made s c s' ms → moments_total f s ms ≡ counted a s c
   unfolding moments_total
   made-total {s} S (unserved q) = sym (counted-refused a s q)
   made-total {s} S (serving {choosing = choosing} {ends = ends} e N C E) =

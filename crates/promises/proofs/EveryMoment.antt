@@ -79,14 +79,14 @@ pub record Stable (P : State → Type 0) : Type 0 where
   pub by-visit : {s : State} → Sound s → (j : ℕ) (rest : List ℕ) → s.scan.visit ≡ none → s.scan.to_visit ≡ j ∷ rest → P s → P (visit_started s j rest)
 
 module _ {P : State → Type 0} (K : Stable P) where
-  scanned_throughout : {s : State} {x : Chosen} {ms : List Moment} → Sound s → s.scan.visit ≡ none → is_empty s.rows ≡ false → ScannedBy x s ms → P s
+  scanned_throughout : {x : Chosen} {s : State} {ms : List Moment} → Sound s → s.scan.visit ≡ none → is_empty s.rows ≡ false → ScannedBy x s ms → P s
       → MomentsThroughout P s ms
   unfolding MomentsBefore moved_by moved
-  scanned_throughout {s} S v e (first-visit j rest t a b c) p = ((p, tt), rw (moved-visit s j rest t) (K.by-visit S j rest v t p))
-  scanned_throughout {s} S v e (term-first t n later) p =
+  scanned_throughout {s = s} S v e (first-visit j rest t a b c) p = ((p, tt), rw (moved-visit s j rest t) (K.by-visit S j rest v t p))
+  scanned_throughout {s = s} S v e (term-first t n later) p =
       let r = scanned_throughout (term-rest S v e n) v e later (K.by-term s p) in
       ((p, r.0), r.1)
-  scanned_throughout {s} S v e (last-term t o later) p =
+  scanned_throughout {s = s} S v e (last-term t o later) p =
       let T : SoundTo midway (term_taken s) = term-kept S v e in
       let q : P (term_taken s) = K.by-term s p in
       let r = scanned_throughout (ended-kept T o) v e later (K.by_end T o q) in
@@ -102,7 +102,7 @@ module _ {P : State → Type 0} (K : Stable P) where
   ended_throughout T (going_on e) p = (tt, p)
   ended_throughout T (round-end o) p = ((K.from_end T o p, tt), p)
 
-  made_throughout : {s s' : State} {c : Call} {ms : List Moment} → Sound s → Made s c s' ms → P s → P s' → MomentsThroughout P s ms
+  made_throughout : {s : State} {c : Call} {s' : State} {ms : List Moment} → Sound s → Made s c s' ms → P s → P s' → MomentsThroughout P s ms
   unfolding MomentsBefore moved_by moved
   made_throughout S (unserved q) p p' = (tt, p)
   made_throughout {s} S (serving {choosing = choosing} {ends = ends} e N C E) p p' =

@@ -1,6 +1,6 @@
 -- In edition 2 the next start comes, however often the order rises: what is left of a round is counted to the last position of the highest order that it meets.
 -- So a channel that waits at a start is visited before so many records have been sent.
-use Prim.Native.Nat.{ℕ, ◌+◌, ◌*◌, ◌^◌, ◌≤◌, ◌<◌}
+use Prim.Native.Nat.{ℕ, ◌*◌, ◌^◌, ◌≤◌, ◌<◌}
 use mathlib.Core.Path.{◌≡◌}
 use mathlib.Core.Bool.{true}
 use mathlib.Core.List.{List, ◌++◌}

@@ -47,10 +47,10 @@ unfolding moved
 ended-leads {s} (going_on e) = leads-none s
 ended-leads (round-end o) = leads_one an_end o refl
 
-scanned-leads : {s : State} {x : Chosen} {ms : List Moment} → Sound s → s.scan.visit ≡ none → is_empty s.rows ≡ false → ScannedBy x s ms
+scanned-leads : {x : Chosen} {s : State} {ms : List Moment} → Sound s → s.scan.visit ≡ none → is_empty s.rows ≡ false → ScannedBy x s ms
     → Leads s ms x.state
 unfolding moved
-scanned-leads {s} S v e (first-visit i rest t a b c) = leads_one a_visit (i, rest, v, t) (moved-visit s i rest t ∙ sym c)
+scanned-leads {s = s} S v e (first-visit i rest t a b c) = leads_one a_visit (i, rest, v, t) (moved-visit s i rest t ∙ sym c)
 scanned-leads S v e (term-first {ms = ms} t n later) =
     leads_append (a_term ∷ []) ms (leads_one a_term (v, t, e, S.end-ok) refl) (scanned-leads (term-rest S v e n) v e later)
 scanned-leads S v e (last-term {ms = ms} t o later) =
@@ -98,7 +98,7 @@ made {s} S c = go (is_next c) refl
     go true e = rw (is-next c e, step-next s) (next s.parked refl (is_empty s.rows) refl)
     go false e = other e
 
-made-leads : {s s' : State} {c : Call} {ms : List Moment} → InRange c → Sound s → Made s c s' ms → Leads s ms s'
+made-leads : {s : State} {c : Call} {s' : State} {ms : List Moment} → InRange c → Sound s → Made s c s' ms → Leads s ms s'
 unfolding moved
 made-leads {s} f S (unserved q) = leads-none s
 made-leads f S (serving {choosing = choosing} {ends = ends} e N C E) =

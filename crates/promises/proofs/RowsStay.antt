@@ -1,6 +1,6 @@
 -- While the rows stay the same, each of them waits and keeps its weight, and the order stays until a round's end: it rises where a slot joins and falls where
 -- a row leaves, so it does neither. This is so in both editions.
-use Prim.Native.Nat.{ℕ, ◌+◌, ◌≤◌}
+use Prim.Native.Nat.{ℕ, ◌≤◌}
 use mathlib.Core.Path.{◌≡◌, refl, sym, ap, ◌∙◌, subst}
 use mathlib.Core.Bool.{Bool, true, false, true≢false}
 use mathlib.Core.List.{List, [], ◌∷◌, ◌++◌}

@@ -28,7 +28,7 @@ visited_append (m ∷ xs) ys s =
 abbrev started_in : Chosen → List ℕ
 started_in x = cond (eqb x.started 1) (x.slot ∷ []) []
 
-scanned-visited : {s : State} {x : Chosen} {ms : List Moment} → ScannedBy x s ms → visited_by s ms ≡ started_in x
+scanned-visited : {x : Chosen} {s : State} {ms : List Moment} → ScannedBy x s ms → visited_by s ms ≡ started_in x
 unfolding visited_by moved
 scanned-visited (first-visit i rest t e o g) = rw (t, e, o) refl
 scanned-visited (term-first t n later) = scanned-visited later
@@ -44,7 +44,7 @@ unfolding visited_by
 ended-visited (going_on e) = refl
 ended-visited (round-end o) = refl
 
-made-visited : {s s' : State} {c : Call} {ms : List Moment} → Sound s → Made s c s' ms → visited_by s ms ≡ visited c (answer_by s c)
+made-visited : {s : State} {c : Call} {s' : State} {ms : List Moment} → Sound s → Made s c s' ms → visited_by s ms ≡ visited c (answer_by s c)
 unfolding visited_by reply
 made-visited S (unserved q) = rw q refl
 made-visited {s} S (serving {choosing = choosing} {ends = ends} e N C E) =
