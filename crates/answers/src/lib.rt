@@ -9,7 +9,7 @@ ghost use Rattle.answers.specs.Answer.{number_of};
 ghost use Rattle.answers.specs.Told.{refusal_told};
 
 // Why a call is refused: a row of document 01's table each.
-#[derive(Drop)]
+#[derive(Clone, Copy)]
 pub enum Refusal {
     NoSlot,
     NotPresent,

@@ -14,7 +14,7 @@ pub mod writer; // writer.rt: the image of a lent memory
 pub const RECORD_BYTES: usize = 6;
 
 // The image's length.
-#[derive(Drop)]
+#[derive(Clone, Copy)]
 pub enum ParkAnswer {
     Parked(u32),
     Refused(Refusal),

@@ -15,7 +15,7 @@ use memory::rows::row_count;
 use terms::term_in;
 
 // Where one stands in the sequence: the order k of the round, the position P of the last term taken, its column, and the terms that this call has taken.
-#[derive(Drop)]
+#[derive(Clone, Copy)]
 pub struct Place {
     pub order: u8,
     pub position: Position,

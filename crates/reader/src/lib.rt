@@ -12,7 +12,7 @@ pub mod decode; // decode.rt: a memory's base built from an image
 pub mod notes; // notes.rt: the notes behind it, worked out afresh
 pub mod reader; // reader.rt: the memory of an image
 
-#[derive(Drop)]
+#[derive(Clone, Copy)]
 pub enum UnparkAnswer {
     Read,
     Refused(Refusal),

@@ -28,7 +28,7 @@ const COLUMNS: usize = 12;
 const CELLS: usize = ROWS * COLUMNS;
 
 // What the checker answers: accepted, or the first wrong place.
-#[derive(Drop)]
+#[derive(Clone, Copy)]
 pub enum SheetAnswer {
     Right,
     WrongAt(u32),
@@ -36,7 +36,7 @@ pub enum SheetAnswer {
 }
 
 // How far a list goes as wanted: up to before this place, or this place is wrong.
-#[derive(Drop)]
+#[derive(Clone, Copy)]
 pub enum Held {
     On(usize),
     Wrong(usize),

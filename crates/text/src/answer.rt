@@ -42,7 +42,7 @@ fn answer(state: &mut [u8], command: Command, out: &mut [u8], place: usize) -> u
 }
 
 // Where the text and the output go on.
-#[derive(Drop)]
+#[derive(Clone, Copy)]
 pub struct Places {
     pub at: usize,
     pub place: usize,

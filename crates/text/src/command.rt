@@ -10,7 +10,7 @@ use super::decimal::{Decimal, spaced_at};
 use super::lines::line_end;
 
 // A command with its numbers in the order of the line, or a line of any other form.
-#[derive(Drop)]
+#[derive(Clone, Copy)]
 pub enum Command {
     Open(u32),
     Put(u32, u32, u32, u32),
@@ -100,7 +100,7 @@ pub fn command_in(line: &[u8]) -> Command
 }
 
 // A line of the text: what it asks for, and the place after it and its line feed.
-#[derive(Drop)]
+#[derive(Clone, Copy)]
 pub struct Line {
     pub command: Command,
     pub next: usize,

@@ -6,7 +6,7 @@ ghost use Rattle.text.specs.Places.{placed, decimal_at, spaced_at};
 const LARGEST: u64 = 4294967295;
 
 // What stands at a place.
-#[derive(Drop)]
+#[derive(Clone, Copy)]
 pub enum Decimal {
     // A number, and the place after it.
     Value(u32, usize),

@@ -7,7 +7,7 @@ ghost use Rattle.text.specs.Reading.{Reads};
 
 use super::command::{Line, line_from};
 
-#[derive(Drop)]
+#[derive(Clone, Copy)]
 pub struct Reader<'a> {
     pub text: &'a [u8],
     pub at: usize,

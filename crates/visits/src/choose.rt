@@ -17,7 +17,7 @@ use memory::search::{column_of, first_in, union_of_rows};
 use spread::jump::{column_at, next_filled};
 
 // The slot, 1 if its visit starts now else 0, the terms taken, the order, and the scan point with that visit open.
-#[derive(Drop)]
+#[derive(Clone, Copy)]
 pub struct Chosen {
     pub slot: usize,
     pub started: u32,
