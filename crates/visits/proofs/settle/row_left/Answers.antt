@@ -1,0 +1,21 @@
+-- The row gone and the visit ended, order and P are as they were.
+use mathlib.Core.Path.{refl, sym, ◌∙◌}
+use Rattle.visits.specs.Settle.{rowless}
+use Rattle.visits.proofs.SettledState.{memory-length, gone, gone-fits, leaves}
+use Rattle.visits.proofs.settle.row_left.Goals as goal
+
+pub row_gone-requires : goal.row_gone-requires
+row_gone-requires c = leaves c.requires.0
+
+pub store_scan-requires : goal.store_scan-requires
+store_scan-requires c =
+    let z = c.requires.0 in
+    c.row_gone.auto.state ∙ memory-length z.fits z.memory
+
+pub returns : goal.returns
+returns c =
+    let i = c.args.slot in
+    λ z none.
+    c.store_scan.ensures (gone z) (rowless z.state i z.channel).scan (gone-fits z)
+    (c.row_gone.ensures z.state z.channel z.fits z.memory z.apart z.head-is (sym z.left ∙ none))
+    (rw z.scan-is refl)
