@@ -1,6 +1,5 @@
 -- At each turn the parts passed are laid.
-use Prim.Native.Nat.{◌-◌, ◌≤◌}
-use mathlib.Core.Path.{◌≡◌, refl, ◌∙◌}
+use mathlib.Core.Path.{refl, ◌∙◌}
 use native.Mathlib.Omega.{arith}
 use Rattle.image.proofs.LaidLaws.{laid-room, parts_none, parts-turn, parts_all}
 use Rattle.image.proofs.parts.put_parts.Goals as goal
@@ -21,7 +20,7 @@ loop-i-preserved c =
     let put = c.put_number-next in
     let more = c.loop-i-test.true in (
       omega arith,
-      put.auto.0 ∙ l.invariant.1,
+      put.auto.buffer ∙ l.invariant.1,
       parts-turn a.at l.i a.widths.now a.numbers.now c.requires.0 more c.requires.1 l.invariant.2 put.ensures,
     )
 

@@ -1,6 +1,6 @@
 -- At each turn the parts passed are laid.
 use Prim.Native.Nat.{◌-◌, ◌≤◌}
-use mathlib.Core.Path.{◌≡◌, ◌∙◌}
+use mathlib.Core.Path.{◌≡◌}
 use lib.ListN.{length}
 use Rattle.octets.specs.Writing.{Written}
 use Rattle.image.proofs.LaidLaws.{laid_to}

@@ -13,13 +13,6 @@ use Rattle.image.proofs.writer.put_image.Goals as goal
 pub row_count-count-requires : goal.row_count-count-requires
 row_count-count-requires c = let start = c in sound-size start.args.state.now start.requires.0
 
--- LEFT slice-bounds-put-bytes-end
-part-put-bytes-end : tie.Need-slice-bounds-put-bytes-end
-part-put-bytes-end c =
-    let start = c.before.before.before.before.before.before.before.before in
-    let m = start.args.state.now in
-    omega (arith, c.before.row_count.ensures.0, count-few m start.requires.0, sound-size m start.requires.0)
-
 pub put_bytes-rows-requires : goal.put_bytes-rows-requires
 put_bytes-rows-requires c =
     let m = c.args.state.now in
@@ -27,7 +20,7 @@ put_bytes-rows-requires c =
     let count = c.row_count-count in
     let head = c.put_head-head in
     let size = length-take-le (0 + count.result - 0) m (omega (arith, count.ensures.0, count-few m c.requires.0, sound-size m c.requires.0)) in
-    omega (arith, size, head.ensures.place, head.auto.0, length-laid (head_parts v (state_of m)), count.ensures.0, length-read m c.requires.0 v, c.requires.3, c.requires.4)
+    omega (arith, size, head.ensures.place, head.auto.buffer, length-laid (head_parts v (state_of m)), count.ensures.0, length-read m c.requires.0 v, c.requires.3, c.requires.4)
 
 pub put_slots-requires : goal.put_slots-requires
 put_slots-requires c =
@@ -40,7 +33,7 @@ put_slots-requires c =
       c.requires.0,
       c.requires.1,
       c.requires.2,
-      omega (arith, size, head.ensures.place, head.auto.0, rows.ensures.place, rows.auto.0, length-laid (head_parts v (state_of m)), count.ensures.0, length-read m c.requires.0 v, c.requires.3, c.requires.4),
+      omega (arith, size, head.ensures.place, head.auto.buffer, rows.ensures.place, rows.auto.buffer, length-laid (head_parts v (state_of m)), count.ensures.0, length-read m c.requires.0 v, c.requires.3, c.requires.4),
     )
 
 pub returns : goal.returns

@@ -1,5 +1,5 @@
 -- At each turn the records passed are written.
-use Prim.Native.Nat.{◌+◌, ◌-◌, ◌≤◌}
+use Prim.Native.Nat.{◌+◌}
 use mathlib.Core.Path.{◌≡◌, refl, ◌∙◌}
 use native.Mathlib.Omega.{arith}
 use Rattle.memory.specs.Reading.{record_at}
@@ -25,7 +25,7 @@ loop-i-preserved c =
     let put = c.put_parts-next in
     let read = c.load_record-cell.ensures in (
       omega arith,
-      put.auto.0 ∙ l.invariant.1,
+      put.auto.buffer ∙ l.invariant.1,
       records-turn a.buffer.now a.at (λ n. record_at a.state.now (a.place + n)) l.i a.count more c.requires.2 l.invariant.2
           (rw read at put.ensures),
     )

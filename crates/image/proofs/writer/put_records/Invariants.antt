@@ -1,6 +1,6 @@
 -- At each turn the records passed are written.
 use Prim.Native.Nat.{◌+◌, ◌-◌, ◌≤◌}
-use mathlib.Core.Path.{◌≡◌, ◌∙◌}
+use mathlib.Core.Path.{◌≡◌}
 use lib.ListN.{length}
 use Rattle.lists.specs.Tabs.{tab}
 use Rattle.memory.specs.Reading.{record_at}

@@ -12,7 +12,7 @@ put_records-requires c =
     let waiting = c.waiting_of-count in
     let put = c.put_parts-next in
     let size = length-laid (parts_of (slot_sizes a.version) (slot_numbers a.version h waiting.result)) in
-    (c.requires.0, omega (arith, waiting.ensures.0, c.requires.4), omega (arith, waiting.ensures.0, put.ensures.place, put.auto.0, size, c.requires.7))
+    (c.requires.0, omega (arith, waiting.ensures.0, c.requires.4), omega (arith, waiting.ensures.0, put.ensures.place, put.auto.buffer, size, c.requires.7))
 
 pub returns : goal.returns
 returns c =

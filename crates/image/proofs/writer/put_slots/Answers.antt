@@ -1,5 +1,4 @@
 -- At each turn the slots passed are written, and `place` is where the next one's records begin.
-use Prim.Native.Nat.{◌-◌, ◌≤◌}
 use mathlib.Core.Path.{◌≡◌, refl, ◌∙◌}
 use native.Mathlib.Omega.{arith}
 use Rattle.rules.specs.Numbers.{slots}
@@ -49,7 +48,7 @@ loop-slot-preserved c =
     let put = c.put_slot-next in (
       omega arith,
       omega (arith, c.waiting_of-place.ensures.0, first_next m l.slot, l.invariant.1),
-      put.auto.0 ∙ l.invariant.2,
+      put.auto.buffer ∙ l.invariant.2,
       entries-turn a.version m a.at l.slot here c.requires.3 l.invariant.3 put.ensures,
     )
 

@@ -1,6 +1,6 @@
 -- At each turn the slots passed are written, and `place` is where the next one's records begin.
 use Prim.Native.Nat.{◌-◌, ◌≤◌}
-use mathlib.Core.Path.{◌≡◌, ◌∙◌}
+use mathlib.Core.Path.{◌≡◌}
 use lib.ListN.{length}
 use Rattle.rules.specs.Numbers.{slots}
 use Rattle.memory.specs.Reading.{first_at}
