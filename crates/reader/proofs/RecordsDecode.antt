@@ -1,8 +1,8 @@
 -- Parts and a slot's records read into a memory: where a good image goes on with them, the memory goes on to the state with them.
-use Rattle.std.proofs.Common.{◌≡◌, ℕ, zero, suc, ◌+◌, ◌-◌, ◌^◌, ◌<◌, ◌≤◌, List, [], ◌∷◌, ◌++◌, length, get_or, take, drop, sym, refl, ap, ◌∙◌, append_assoc, add-zero, add-one, arith, length-append, length-set, drop_of_length-le, length-take-le, take_all, drop-cons, take-suc, get_or-set_same, drop-drop, set-set}
+use Rattle.std.proofs.Common.{◌≡◌, ℕ, zero, suc, ◌+◌, ◌^◌, ◌<◌, ◌≤◌, List, [], ◌∷◌, ◌++◌, length, get_or, take, drop, sym, refl, ap, ◌∙◌, append_assoc, add-zero, add-one, arith, length-append, length-set, drop_of_length-le, length-take-le, take_all, drop-cons, take-suc, get_or-set_same, drop-drop, set-set}
 use Rattle.rules.specs.Numbers.{slots, room, cells}
 use Rattle.rules.specs.State.{Record, Channel, State, blank, at, with_channel}
-use Rattle.memory.specs.Layout.{run_of, width, bytes_of}
+use Rattle.memory.specs.Layout.{run_of, bytes_of}
 use Rattle.memory.specs.Reading.{waiting_at, first_at}
 use Rattle.memory.specs.Edits.{record_added, queue_now, with_waiting}
 use Rattle.memory.specs.Fits.{Each, each_nil, each_cons, RecordFits, SlotFits, Fits}

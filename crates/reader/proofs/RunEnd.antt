@@ -2,7 +2,6 @@
 use Rattle.std.proofs.Common.{◌≡◌, ℕ, zero, suc, ◌+◌, ◌<◌, ◌≤◌, List, [], ◌∷◌, length, sym, refl, ap, ◌∙◌, ⊎_elim, eq-or-lt_of_le, arith, length-append, length-set, get_or-set_other, get_or-set_same}
 use Rattle.rules.specs.Numbers.{slots}
 use Rattle.rules.specs.State.{Record, Channel, State, blank, at}
-use Rattle.memory.specs.Names as the
 use Rattle.memory.specs.Layout.{run_of, bytes_of}
 use Rattle.memory.specs.Reading.{first_at}
 use Rattle.memory.specs.Edits.{with_waiting, queue_now}

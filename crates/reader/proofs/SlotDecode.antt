@@ -1,8 +1,8 @@
 -- A slot's entry read into a memory: its numbers are stored, and then its records come behind those of the slots before.
-use Rattle.std.proofs.Common.{◌≡◌, ℕ, ◌+◌, ◌-◌, ◌^◌, ◌<◌, ◌≤◌, List, [], ◌++◌, length, get_or, drop, sym, ap, ◌∙◌, append_assoc, arith, get_or-set_other}
+use Rattle.std.proofs.Common.{◌≡◌, ℕ, ◌+◌, ◌^◌, ◌<◌, ◌≤◌, List, [], ◌++◌, length, get_or, drop, sym, ap, ◌∙◌, append_assoc, arith, get_or-set_other}
 use Rattle.rules.specs.Numbers.{slots}
 use Rattle.rules.specs.State.{Record, Channel, State, blank, at, with_channel, kind_number}
-use Rattle.memory.specs.Layout.{width, bytes_of}
+use Rattle.memory.specs.Layout.{bytes_of}
 use Rattle.memory.specs.Reading.{first_at}
 use Rattle.memory.specs.Edits.{queue_now, with_waiting}
 use Rattle.memory.specs.Fits.{each_nil, SlotFits, Fits}

@@ -1,5 +1,5 @@
 -- The entries of all slots read one after the other into a fresh memory: the slots passed are the state's, the others are free.
-use Rattle.std.proofs.Common.{◌≡◌, ℕ, zero, suc, ◌+◌, ◌-◌, ◌<◌, ◌≤◌, Bool, true, false, ltb, List, [], ◌∷◌, ◌++◌, length, take, drop, set, sym, refl, ap, ◌∙◌, ⊎_elim, not-suc-le-zero, eq-or-lt_of_le, add-one, arith, length-set, take-append-drop, drop_of_length-le, drop-cons, get_or-set_other, take-suc, get_or-set_same, ext_get_or, ltb-false, ltb-true}
+use Rattle.std.proofs.Common.{◌≡◌, ℕ, zero, suc, ◌+◌, ◌<◌, ◌≤◌, Bool, true, false, ltb, List, [], ◌∷◌, ◌++◌, length, take, drop, set, sym, refl, ap, ◌∙◌, ⊎_elim, not-suc-le-zero, eq-or-lt_of_le, add-one, arith, length-set, take-append-drop, drop_of_length-le, drop-cons, get_or-set_other, take-suc, get_or-set_same, ext_get_or, ltb-false, ltb-true}
 use lib.ListN.{get_or-eq_default, get_or-replicate}
 use Rattle.rules.specs.Numbers.{slots, shared}
 use Rattle.rules.specs.State.{Channel, State, blank, fresh, at, beyond, shared_use, with_channel}

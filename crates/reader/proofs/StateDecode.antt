@@ -1,5 +1,5 @@
 -- Rows and the scan point of a good image read into a memory, and the whole image into zeros: in the end it is the memory of the image's state.
-use Rattle.std.proofs.Common.{◌≡◌, ℕ, zero, suc, ◌+◌, ◌-◌, ◌^◌, ◌<◌, ◌≤◌, false, List, [], ◌∷◌, ◌++◌, length, get_or, take, drop, set, replicate, sym, refl, ap, ◌∙◌, add-one, arith, get_or-drop, take_all, take-suc, drop-drop}
+use Rattle.std.proofs.Common.{◌≡◌, ℕ, zero, suc, ◌+◌, ◌^◌, ◌<◌, ◌≤◌, false, List, [], ◌∷◌, ◌++◌, length, get_or, take, drop, set, replicate, sym, refl, ap, ◌∙◌, add-one, arith, get_or-drop, take_all, take-suc, drop-drop}
 use mathlib.Core.Option.{Option, none, some}
 use lib.ListN.{get_or-append}
 use lib.Seq.{split_at, drop-append_seam}

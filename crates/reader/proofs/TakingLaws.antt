@@ -1,5 +1,5 @@
 -- Numbers taken one after the other, and what they are where parts were laid.
-use Rattle.std.proofs.Common.{◌≡◌, ℕ, zero, suc, ◌+◌, ◌-◌, ◌*◌, ◌^◌, ◌<◌, ◌≤◌, List, [], ◌∷◌, ◌++◌, length, get_or, take, drop, set, sym, refl, ap, ◌∙◌, append-nil, not-suc-le-zero, pow-suc, add-one, arith, drop_of_length-le, get_or-drop, take_all, drop-cons, drop-drop}
+use Rattle.std.proofs.Common.{◌≡◌, ℕ, zero, suc, ◌+◌, ◌*◌, ◌^◌, ◌<◌, ◌≤◌, List, [], ◌∷◌, ◌++◌, length, get_or, take, drop, set, sym, refl, ap, ◌∙◌, append-nil, not-suc-le-zero, pow-suc, add-one, arith, drop_of_length-le, get_or-drop, take_all, drop-cons, drop-drop}
 use native.Mathlib.Nat.{pow-le-pow_right}
 use lib.Seq.{set_at, append_snoc}
 use Rattle.image.specs.Parts.{as_number, start, span, part_in, numbers_in}

@@ -1,0 +1,24 @@
+-- The length, then the image, and only then the lent bytes.
+use Rattle.std.proofs.Common.{◌≡◌, true, false}
+use Rattle.reader.proofs.ReaderLaws.{read-wrong, read-bad, read_good}
+use Rattle.reader.proofs.reader.unpark.Goals as goal
+
+pub returns-then-state-ne-LENGTH : goal.returns-then-state-ne-LENGTH
+returns-then-state-ne-LENGTH c =
+    let a = c.args in
+    read-wrong a.image.now a.state.now c.if-state-ne-LENGTH.true
+
+pub returns-then-not-receive : goal.returns-then-not-receive
+returns-then-not-receive c =
+    let a = c.args in
+    let made = c.receive in
+    let e : made.result ≡ false = c.if-not-receive.true in
+    read-bad a.image.now a.state.now c.if-state-ne-LENGTH.false (rw e at made.ensures)
+
+pub returns : goal.returns
+returns c =
+    let a = c.args in
+    let made = c.receive in
+    let e : made.result ≡ true = c.if-not-receive.false in
+    read_good a.image.now a.state.now c.if-state-ne-LENGTH.false made.auto.memory (rw e at made.ensures)
+    c.put_bytes.ensures
