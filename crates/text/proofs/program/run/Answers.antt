@@ -6,7 +6,7 @@ use native.Mathlib.Omega.{arith}
 use lib.ListN.{length, take}
 use lib.Seq.{length-take-le}
 use Rattle.text.specs.Answers.{most, too_long}
-use Rattle.text.proofs.OutputLaws.{written_stands, lift-long, lift-short}
+use Rattle.text.proofs.OutputLaws.{written_stands, start-fresh, lift-long, lift-short}
 use Rattle.text.proofs.program.run.Goals as goal
 
 pub returns-then-n-gt-MOST : goal.returns-then-n-gt-MOST
@@ -30,5 +30,5 @@ returns c =
     let a = c.args in
     let text : List ℕ = take a.n a.input.now in
     let short : length text ≤ most = omega (arith, length-take-le a.n a.input.now c.requires.1, c.if-n-gt-MOST.false) in
-    let fresh = ap (λ x. x.bytes) c.start.ensures ∙ c-fresh _ refl in
+    let fresh = ap (λ x. x.bytes) c.start.ensures ∙ start-fresh _ refl in
     rw (lift-short text short) (rw fresh at c.answer_all.ensures)
