@@ -2,7 +2,7 @@
 //
 // An entry is lent the state and an answer buffer. It asks for the buffer's length, calls the proved function of the same name, and puts what that
 // answers into the buffer and the number. One contract for all, without a `requires`: the number, the state left and the buffer left are what `entered`
-// says of the rules' own call. `rt staticlib driver` exports only this crate's functions, which is why they stand by themselves.
+// says of the rules' own call. No archive exports a library's functions: crate driver_c has each of these once more, for the archive of the C entries.
 #![tactic(auto)]
 
 ghost use Rattle.std.specs.Prelude.{◌≡◌, []};

@@ -1,6 +1,6 @@
 // The entries for C of the matrix by hand, and nothing else: include/plain.h declares them. They are the driver's Put and Next, worked out on paper.
 //
-// An archive of its own (`rt staticlib support`): the adapter's must not hold the table of terms (document 02, §2). The contracts are those of `uplink_put` and
+// An archive of its own (crate support_c): the adapter's must not hold the table of terms (document 02, §2). The contracts are those of `uplink_put` and
 // `uplink_next`, so numbers, answers and states are theirs, for any bytes lent.
 #![tactic(auto)]
 
