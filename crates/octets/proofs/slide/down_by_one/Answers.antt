@@ -1,5 +1,4 @@
 -- The first bytes of the run have come down by one, `done` of them; each turn moves the byte behind them.
-use Prim.Native.Nat.{◌+◌, ◌-◌, ◌≤◌}
 use mathlib.Core.Path.{◌≡◌, refl, sym}
 use native.Mathlib.Omega.{arith}
 use borrow.Author.Rules.{rules}
