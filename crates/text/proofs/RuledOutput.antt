@@ -97,10 +97,10 @@ follows {s} S l = go (command_of l) refl
 
 pub output-ruled : {s : State} → Sound s → (ls : List (List ℕ)) → output (memory_of s) ls ≡ ruled_output s ls
 unfolding output ruled_output
-output-ruled S [] = refl
-output-ruled S (l ∷ ls) =
+output-ruled {s = s} S [] = refl
+output-ruled {s = s} S (l ∷ ls) =
     let f = follows S l in
-    ap₂ ◌++◌ f.line (ap (λ (m : List ℕ). output m ls) f.memory ∙ output-ruled f.sound ls)
+    ap₂ ◌++◌ f.line (ap (λ (m : List ℕ). output m ls) f.memory ∙ output-ruled {s = (ruled_to s (command_of l)).state} f.sound ls)
 
 -- an input that is not too long prints what the rules say to its lines, from edition 1's fresh state on
 pub lift-ruled : (input : List ℕ) → length input ≤ most → lift input ≡ ruled_output (fresh falling) (lines_of input)

@@ -1,0 +1,45 @@
+-- The position stands in the table, so the term is the rules'.
+use Prim.Native.Nat.{ℕ, ◌+◌, ◌-◌, ◌^◌, ◌≤◌, ◌<◌}
+use mathlib.Core.Path.{◌≡◌, refl}
+use native.Mathlib.Omega.{arith}
+use lib.Pow.{pow_mono}
+use Rattle.spread.specs.Visits.{column_at}
+use Rattle.spread.specs.Sequence.{term}
+use Rattle.spread.proofs.Rule.{term-le}
+use Rattle.terms.specs.Table.{table_order}
+use Rattle.rules.proofs.Steps.{next-position}
+use Rattle.rules.specs.Next.{next_position}
+use Rattle.plain.specs.declared.scan.Place.{Place}
+use Rattle.plain.specs.Places.{next_term}
+use Rattle.plain.proofs.scan.term_taken.Goals as goal
+
+taken_is : (x : Place) {p t : ℕ} → p ≡ next_position x.order x.position → t ≡ term p
+    → ◌≡◌ {A = Place} (record { order = x.order; position = p; column = x.order - t; terms = x.terms + 1 }) (next_term x)
+unfolding column_at
+taken_is x e f = rw (f, e) refl
+
+pub next_position-position-requires : goal.next_position-position-requires
+next_position-position-requires c = (c.requires.1.most, c.requires.1.position)
+
+pub term_in-term-requires : goal.term_in-term-requires
+term_in-term-requires c =
+    let within : (1 ≤ c.next_position-position.result) × (c.next_position-position.result < 2 ^ c.args.place.order) = let x = c.args.place in
+    let R = c.requires.1 in
+    rw c.next_position-position.ensures (next-position x.order x.position R.least R.position) in
+    let below : c.next_position-position.result < 2 ^ table_order = let most : 2 ^ c.args.place.order ≤ 2 ^ table_order = pow_mono c.requires.1.most in
+    omega (arith, within.1) in
+    let (low, high) = within in (c.requires.0, low, omega (arith, below))
+
+pub overflow_sub-result : goal.overflow_sub-result
+overflow_sub-result c =
+    let within : (1 ≤ c.next_position-position.result) × (c.next_position-position.result < 2 ^ c.args.place.order) = let x = c.args.place in
+    let R = c.requires.1 in
+    rw c.next_position-position.ensures (next-position x.order x.position R.least R.position) in
+    let (low, high) = within in
+    omega (arith, c.term_in-term.ensures, term-le c.args.place.order c.next_position-position.result (omega arith) high)
+
+pub overflow_add-result : goal.overflow_add-result
+overflow_add-result c = omega (arith, c.requires.1.few)
+
+pub returns : goal.returns
+returns c = taken_is c.args.place c.next_position-position.ensures c.term_in-term.ensures

@@ -1,0 +1,24 @@
+-- The slot and the ticket go into one line, which is short; or the refusal does.
+use mathlib.Core.List.{List, [], ◌∷◌}
+use Prim.Native.Nat.{ℕ}
+use native.Mathlib.Omega.{arith}
+use Rattle.text.proofs.PrintingLaws.{Small, answer-room, answer_prints}
+use Rattle.text.proofs.printing.print_open.Goals as goal
+
+pub put_line-requires : goal.put_line-requires
+put_line-requires c =
+    let fields : List ℕ = c.in-Opened.slot ∷ c.in-Opened.ticket ∷ [] in
+    let small : Small fields = (omega arith, (omega arith, tt)) in
+    answer-room 79 fields small (omega arith) c.args.out.now c.args.at c.requires
+
+pub returns-in-Opened : goal.returns-in-Opened
+returns-in-Opened c =
+    let fields : List ℕ = c.in-Opened.slot ∷ c.in-Opened.ticket ∷ [] in
+    let small : Small fields = (omega arith, (omega arith, tt)) in
+    let told = c.in-Opened.is in
+    rw told (answer_prints 79 fields small (omega arith) _ _ _ _ c.put_line.ensures.value c.put_line.ensures.out_after)
+
+pub returns-in-Refused : goal.returns-in-Refused
+returns-in-Refused c =
+    let told = c.in-Refused.is in
+    rw told c.print_refusal.ensures
