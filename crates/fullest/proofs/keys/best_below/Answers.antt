@@ -1,5 +1,4 @@
 -- Each turn looks at one slot, whose key is made of the bytes read; the greatest key below the limit is the first of those below it.
-use Prim.Native.Nat.{◌≤◌, ◌-◌}
 use mathlib.Core.Path.{◌≡◌, refl}
 use native.Mathlib.Omega.{arith}
 use Rattle.fullest.specs.Moved.{best_below}

@@ -1,6 +1,6 @@
 -- The line so far, and what is held put into the slots that are left, are together the slot put into all of them.
-use Prim.Native.Nat.{ℕ, ◌+◌, ◌≤◌, ◌<◌, ◌-◌}
-use mathlib.Core.Path.{◌≡◌, ◌∙◌}
+use Prim.Native.Nat.{ℕ, ◌≤◌, ◌<◌, ◌-◌}
+use mathlib.Core.Path.{◌≡◌}
 use mathlib.Core.List.{◌++◌}
 use lib.ListN.{length, get_or, take, drop}
 use Rattle.memory.specs.Reading.{bytes_at}

@@ -1,5 +1,4 @@
 -- Each turn copies one slot to the next place, which moves on unless it is the slot that is taken out.
-use Prim.Native.Nat.{◌≤◌, ◌-◌}
 use mathlib.Core.Path.{◌≡◌, refl}
 use native.Mathlib.Omega.{arith}
 use Rattle.fullest.proofs.MovingLaws.{out-turn}

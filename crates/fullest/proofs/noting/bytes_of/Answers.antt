@@ -1,9 +1,6 @@
 -- The bytes waiting are the two bytes read.
 use native.Mathlib.Omega.{arith}
 use Rattle.fullest.proofs.BytesRead.{bytes_read}
-use Rattle.fullest.proofs.noting.bytes_of.Reads as reads
-use Rattle.fullest.proofs.noting.bytes_of.Lts as lts
-use Rattle.fullest.proofs.keys.two.Reads as two-reads
 use Rattle.fullest.proofs.noting.bytes_of.Goals as goal
 
 -- src/noting.rt:25:1

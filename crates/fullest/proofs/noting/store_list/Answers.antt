@@ -1,5 +1,4 @@
 -- The count is written, then place after place.
-use Prim.Native.Nat.{◌-◌, ◌≤◌}
 use mathlib.Core.Path.{◌≡◌, ◌∙◌}
 use native.Mathlib.Omega.{arith}
 use borrow.Author.Rules.{rules}
@@ -9,9 +8,6 @@ use Rattle.rules.specs.Numbers.{listed}
 use Rattle.memory.specs.Names as the
 use Rattle.memory.specs.Layout.{note_place}
 use Rattle.fullest.proofs.NotingLaws.{stored-none, stored-turn, stored-all}
-use Rattle.fullest.proofs.noting.store_list.Reads as reads
-use Rattle.fullest.proofs.noting.store_list.Lts as lts
-use Rattle.fullest.proofs.noting.entry_at.Reads as entry-at-reads
 use Rattle.fullest.proofs.noting.store_list.Goals as goal
 
 pub loop-k-init : goal.loop-k-init

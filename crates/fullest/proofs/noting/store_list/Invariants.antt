@@ -1,14 +1,10 @@
 -- The count is written, then place after place.
 use Prim.Native.Nat.{◌-◌, ◌≤◌}
-use mathlib.Core.Path.{◌≡◌, ◌∙◌}
+use mathlib.Core.Path.{◌≡◌}
 use lib.ListN.{length}
 use Rattle.rules.specs.Numbers.{listed}
-use Rattle.memory.specs.Names as the
 use Rattle.memory.specs.Layout.{memory_length}
 use Rattle.fullest.proofs.NotingLaws.{Stored}
-use Rattle.fullest.proofs.noting.store_list.Reads as reads
-use Rattle.fullest.proofs.noting.store_list.Lts as lts
-use Rattle.fullest.proofs.noting.entry_at.Reads as entry-at-reads
 use Rattle.fullest.proofs.noting.store_list.Given as goal
 
 abbrev pub invariant-loop-k : goal.invariant-loop-k

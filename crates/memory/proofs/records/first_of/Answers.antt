@@ -1,5 +1,5 @@
 -- The sum so far is the first place of the next slot; 16 bits hold it, so that a compiler can add up eight at a time.
-use Prim.Native.Nat.{◌+◌, ◌≤◌, ◌-◌, ◌*◌}
+use Prim.Native.Nat.{◌+◌}
 use mathlib.Core.Path.{◌≡◌, refl}
 use native.Mathlib.Omega.{arith}
 use borrow.Author.Rules.{rules}

@@ -1,7 +1,6 @@
 -- The sum so far is the first place of the next slot; 16 bits hold it, so that a compiler can add up eight at a time.
-use Prim.Native.Nat.{◌+◌, ◌≤◌, ◌-◌, ◌*◌}
+use Prim.Native.Nat.{◌≤◌, ◌-◌, ◌*◌}
 use mathlib.Core.Path.{◌≡◌}
-use Rattle.memory.specs.Names as the
 use Rattle.memory.specs.Reading.{first_at}
 use Rattle.memory.proofs.records.first_of.Given as goal
 

@@ -1,10 +1,8 @@
 -- The sum so far is the use of the slots passed; 16 bits hold it, so that a compiler can add up eight at a time.
-use Prim.Native.Nat.{◌-◌, ◌*◌, ◌≤◌}
 use mathlib.Core.Path.{◌≡◌, refl}
 use native.Mathlib.Omega.{arith}
 use borrow.Author.Rules.{rules}
 use Rattle.rules.specs.Numbers.{slots}
-use Rattle.memory.specs.Names as the
 use Rattle.memory.specs.Search.{used_at}
 use Rattle.memory.proofs.SharedUse.{used_turn}
 use Rattle.memory.proofs.records.shared_use.Goals as goal

@@ -2,7 +2,6 @@
 use Prim.Native.Nat.{◌-◌, ◌*◌, ◌≤◌}
 use mathlib.Core.Path.{◌≡◌}
 use Rattle.rules.specs.Numbers.{slots}
-use Rattle.memory.specs.Names as the
 use Rattle.memory.specs.Search.{used_at}
 use Rattle.memory.proofs.records.shared_use.Given as goal
 

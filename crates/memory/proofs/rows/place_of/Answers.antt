@@ -1,6 +1,5 @@
 -- No row before k is the slot, so the slot, which is a row, is found.
-use Prim.Native.Nat.{◌≤◌, ◌<◌, ◌-◌}
-use mathlib.Core.Path.{◌≡◌, sym, ◌∙◌}
+use mathlib.Core.Path.{sym, ◌∙◌}
 use native.Mathlib.Omega.{arith}
 use borrow.Author.Rules.{rules}
 use borrow.Author.Count.{below_none, below_more}

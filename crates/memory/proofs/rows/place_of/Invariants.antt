@@ -1,6 +1,6 @@
 -- No row before k is the slot, so the slot, which is a row, is found.
 use Prim.Native.Nat.{ℕ, ◌≤◌, ◌<◌, ◌-◌}
-use mathlib.Core.Path.{◌≡◌, ◌∙◌}
+use mathlib.Core.Path.{◌≡◌}
 use Rattle.memory.specs.Names as the
 use Rattle.memory.specs.Reading.{byte_in, row_count_at}
 use Rattle.memory.proofs.rows.place_of.Given as goal

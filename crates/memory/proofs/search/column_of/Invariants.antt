@@ -1,6 +1,6 @@
 -- The mask is that of the column of the rows passed; the next row to the front is in it or not.
-use Prim.Native.Nat.{◌-◌, ◌≤◌}
-use mathlib.Core.Path.{◌≡◌, ◌∙◌}
+use Prim.Native.Nat.{◌≤◌}
+use mathlib.Core.Path.{◌≡◌}
 use lib.ListN.{drop}
 use Rattle.bits.specs.Mask.{mask_of}
 use Rattle.rules.specs.State.{weights, column_of}

@@ -1,6 +1,6 @@
 -- A row that is not in the mask may be passed over, so the first one that is left is the first of all. It is a slot, so there is one left.
 use Prim.Native.Nat.{◌-◌, ◌<◌}
-use mathlib.Core.Path.{◌≡◌, ◌∙◌}
+use mathlib.Core.Path.{◌≡◌}
 use lib.ListN.{get_or, drop}
 use Rattle.rules.specs.Numbers.{slots}
 use Rattle.memory.specs.Reading.{row_count_at, in_mask, state_of}

@@ -1,6 +1,6 @@
 -- The lowest slot of all is so many as were passed and the lowest of those that are left.
-use Prim.Native.Nat.{◌+◌, ◌-◌, ◌≤◌, ◌<◌}
-use mathlib.Core.Path.{◌≡◌, ◌∙◌}
+use Prim.Native.Nat.{◌+◌, ◌-◌, ◌≤◌}
+use mathlib.Core.Path.{◌≡◌}
 use lib.ListN.{drop}
 use Rattle.rules.specs.Numbers.{slots}
 use Rattle.rules.specs.Calls.{lowest}

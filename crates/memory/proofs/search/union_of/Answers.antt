@@ -1,5 +1,4 @@
 -- Each turn adds one slot's weight, if it is a row, to the union of those before it.
-use Prim.Native.Nat.{◌≤◌, ◌-◌}
 use mathlib.Core.Path.{◌≡◌, refl}
 use native.Mathlib.Omega.{arith}
 use borrow.Author.Rules.{rules}
