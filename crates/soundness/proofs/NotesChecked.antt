@@ -6,7 +6,7 @@ use Rattle.lists.specs.Tabs.{tab}
 use Rattle.lists.proofs.TabLaws.{get_d_tab, tab-last, length-tab}
 use Rattle.lists.proofs.TestLaws.{same_bool, and-true, true-and}
 use Rattle.octets.specs.Number.{Bytes}
-use Rattle.rules.specs.Numbers.{slots, room, cells, listed}
+use Rattle.rules.specs.Numbers.{slots, cells, listed}
 use Rattle.rules.specs.State.{Record, Channel, State, blank, at}
 use Rattle.rules.specs.Fullest.{lengths_of, bytes_in, fullest_by}
 use Rattle.rules.specs.Facts.{Sound}

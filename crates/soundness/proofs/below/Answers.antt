@@ -1,6 +1,5 @@
 -- Each turn adds the test of one row to those of the rows before it.
-use Rattle.std.proofs.Common.{◌≡◌, ◌-◌, ◌≤◌, refl, arith, rules}
-use Rattle.memory.specs.Names as the
+use Rattle.std.proofs.Common.{◌≡◌, refl, arith, rules}
 use Rattle.soundness.specs.Check.{all_below, below_rule}
 use Rattle.soundness.proofs.CheckTurns.{all-turn, all_end}
 use Rattle.soundness.proofs.below.Goals as goal

@@ -1,5 +1,5 @@
 -- The local line holds how often each slot is found among the rows passed: a turn raises one of its bytes, which stays below the number of rows.
-use Rattle.std.proofs.Common.{◌≡◌, ◌-◌, ◌<◌, ◌≤◌, refl, arith, rules}
+use Rattle.std.proofs.Common.{◌≡◌, ◌<◌, refl, arith, rules}
 use Rattle.rules.specs.Numbers.{slots}
 use Rattle.soundness.proofs.CheckTurns.{counts_none, counts_turn, found-le, below_at}
 use Rattle.soundness.proofs.counted.Goals as goal

@@ -1,5 +1,5 @@
 -- The slots looked at and those left make up the mask; each turn looks at the lowest that is left.
-use Rattle.std.proofs.Common.{◌≡◌, ◌&&◌, refl, arith}
+use Rattle.std.proofs.Common.{refl, arith}
 use Rattle.bits.proofs.LowestLaws.{lowest-less}
 use Rattle.soundness.proofs.MaskSlots.{in_column-turn, in_column-end}
 use Rattle.soundness.proofs.in_column.Goals as goal

@@ -1,5 +1,5 @@
 -- Each turn compares one slot; the line lent holds how often it is found in the rows.
-use Rattle.std.proofs.Common.{◌≡◌, ◌-◌, ◌≤◌, ◌∙◌}
+use Rattle.std.proofs.Common.{◌≡◌, ◌-◌, ◌≤◌}
 use Rattle.rules.specs.Numbers.{slots}
 use Rattle.memory.specs.Reading.{waiting_at}
 use Rattle.soundness.specs.Check.{all_below, found, once_rule}

@@ -1,8 +1,8 @@
 -- The way out is that the order fails. Past it the order is at most 12, so 2 to it can be taken; what is left is the other two rules.
-use Rattle.std.proofs.Common.{◌≡◌, true, not, sym, ◌∙◌, rules}
+use Rattle.std.proofs.Common.{not, sym, ◌∙◌, rules}
 use mathlib.Core.Bool.{and-true as and-with-true}
 use Rattle.memory.specs.Point.{over_at}
-use Rattle.soundness.specs.Check.{order_rule, round_rule}
+use Rattle.soundness.specs.Check.{round_rule}
 use Rattle.soundness.proofs.CheckWays.{order_small}
 use Rattle.soundness.proofs.round_ok.Goals as goal
 

@@ -1,5 +1,5 @@
 -- Each turn adds the test of one cell, whose numbers are the six bytes read.
-use Rattle.std.proofs.Common.{◌≡◌, ◌+◌, ◌-◌, ◌≤◌, sym, refl, ◌∙◌, ap₂, arith, rules}
+use Rattle.std.proofs.Common.{◌≡◌, ◌-◌, sym, refl, ◌∙◌, ap₂, arith, rules}
 use Rattle.memory.specs.Names as the
 use Rattle.rules.specs.Numbers.{cells}
 use Rattle.memory.specs.Layout.{place}

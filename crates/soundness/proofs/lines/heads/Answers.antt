@@ -1,5 +1,5 @@
 -- Each turn adds the rules of one slot, whose head and number waiting the bytes read are.
-use Rattle.std.proofs.Common.{◌≡◌, ◌-◌, ◌≤◌, refl, ◌∙◌, ap₂, arith, rules}
+use Rattle.std.proofs.Common.{◌≡◌, refl, ◌∙◌, ap₂, arith, rules}
 use Rattle.rules.specs.Numbers.{slots}
 use Rattle.soundness.specs.Check.{all_below, head_rule, heads_rule}
 use Rattle.soundness.proofs.CheckTurns.{all-turn, all_end}

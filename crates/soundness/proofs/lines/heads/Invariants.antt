@@ -1,5 +1,5 @@
 -- Each turn adds the rules of one slot, whose head and number waiting the bytes read are.
-use Rattle.std.proofs.Common.{◌≡◌, ◌-◌, ◌≤◌, ◌∙◌}
+use Rattle.std.proofs.Common.{◌≡◌, ◌-◌, ◌≤◌}
 use Rattle.rules.specs.Numbers.{slots}
 use Rattle.memory.specs.Reading.{waiting_at}
 use Rattle.memory.specs.Head.{head_at}

@@ -1,5 +1,5 @@
 -- Each turn adds the test of one byte to those before it.
-use Rattle.std.proofs.Common.{◌≡◌, ◌+◌, ◌-◌, ◌≤◌, refl, arith, rules}
+use Rattle.std.proofs.Common.{◌≡◌, refl, arith, rules}
 use Rattle.soundness.specs.Check.{all_below, clear}
 use Rattle.soundness.proofs.CheckTurns.{all-turn, all_end}
 use Rattle.soundness.proofs.lines.is_clear.Goals as goal

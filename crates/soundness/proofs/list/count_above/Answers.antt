@@ -1,5 +1,5 @@
 -- Each turn adds one slot, whose key is made of the bytes read.
-use Rattle.std.proofs.Common.{◌≡◌, ◌-◌, ◌≤◌, refl, arith, rules}
+use Rattle.std.proofs.Common.{◌≡◌, refl, arith, rules}
 use Rattle.fullest.specs.Keys.{above}
 use Rattle.soundness.proofs.ListLaws.{above-turn}
 use Rattle.soundness.proofs.list.count_above.Goals as goal

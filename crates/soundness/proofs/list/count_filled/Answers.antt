@@ -1,5 +1,5 @@
 -- Each turn adds one slot, which has bytes waiting where the two bytes read are not both 0.
-use Rattle.std.proofs.Common.{◌≡◌, ◌-◌, ◌≤◌, refl, arith, rules}
+use Rattle.std.proofs.Common.{◌≡◌, refl, arith, rules}
 use Rattle.fullest.specs.Keys.{above}
 use Rattle.soundness.proofs.ListLaws.{filled-one}
 use Rattle.soundness.proofs.list.count_filled.Goals as goal

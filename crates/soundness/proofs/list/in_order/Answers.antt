@@ -1,5 +1,5 @@
 -- The answer so far and the test of the slots that are left, from the last key on, are together the test of the whole list.
-use Rattle.std.proofs.Common.{◌≡◌, ◌-◌, ◌≤◌, ◌&&◌, refl, arith, rules}
+use Rattle.std.proofs.Common.{◌≡◌, refl, arith, rules}
 use native.Mathlib.Nat.{sub-zero}
 use Rattle.soundness.proofs.ListLaws.{order-out, order-turn, order-end}
 use Rattle.soundness.proofs.list.in_order.Goals as goal

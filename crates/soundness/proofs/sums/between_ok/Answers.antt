@@ -1,5 +1,5 @@
 -- Each turn adds one slot: the totals are two neighbours of the line, and its bytes waiting are the two bytes read.
-use Rattle.std.proofs.Common.{◌≡◌, ◌+◌, ◌-◌, ◌%◌, ◌≤◌, eqb, get_or, sym, refl, ap, ◌∙◌, arith, rules}
+use Rattle.std.proofs.Common.{◌≡◌, ◌+◌, ◌-◌, ◌%◌, eqb, get_or, sym, refl, ap, ◌∙◌, arith, rules}
 use Rattle.fullest.proofs.BytesRead.{bytes_read}
 use Rattle.soundness.specs.Check.{all_below}
 use Rattle.soundness.specs.Notes.{between_rule}

@@ -1,5 +1,5 @@
 -- Each turn adds one number; modulo 65,536 it does not matter when the remainder is taken.
-use Rattle.std.proofs.Common.{◌≡◌, ◌-◌, ◌%◌, ◌≤◌, refl, arith, rules}
+use Rattle.std.proofs.Common.{◌≡◌, refl, arith, rules}
 use Rattle.soundness.specs.Notes.{sum_of}
 use Rattle.soundness.proofs.SumLaws.{eight-turn}
 use Rattle.soundness.proofs.sums.eight.Goals as goal

@@ -1,6 +1,5 @@
 -- Before slot s the place is that of its first record, and the line holds the totals up to it.
-use Rattle.std.proofs.Common.{◌≡◌, ◌+◌, ◌-◌, ◌<◌, ◌≤◌, refl, ◌∙◌, arith, rules}
-use Rattle.rules.specs.Numbers.{slots}
+use Rattle.std.proofs.Common.{refl, ◌∙◌, arith, rules}
 use Rattle.memory.specs.Reading.{first_at}
 use Rattle.soundness.proofs.SumLaws.{strided_total, slots-left, first_next, ended-none, ended-turn}
 use Rattle.soundness.proofs.sums.ends_of.Goals as goal

@@ -1,5 +1,5 @@
 -- Before slot s the place is that of its first record, and the line holds the totals up to it.
-use Rattle.std.proofs.Common.{◌≡◌, ◌+◌, ◌-◌, ◌<◌, ◌≤◌, length, ◌∙◌}
+use Rattle.std.proofs.Common.{◌≡◌, ◌+◌, ◌-◌, ◌≤◌, length}
 use Rattle.rules.specs.Numbers.{slots}
 use Rattle.memory.specs.Reading.{first_at}
 use Rattle.soundness.specs.Notes.{Ended}

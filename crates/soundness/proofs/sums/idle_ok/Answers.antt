@@ -1,5 +1,5 @@
 -- Each turn adds one slot: its bytes waiting are the two bytes read.
-use Rattle.std.proofs.Common.{◌≡◌, ◌-◌, ◌≤◌, Bool, not, ◌||◌, eqb, refl, ap, arith, rules}
+use Rattle.std.proofs.Common.{◌≡◌, Bool, not, ◌||◌, eqb, refl, ap, arith, rules}
 use Rattle.rules.specs.Numbers.{slots}
 use Rattle.memory.specs.Reading.{waiting_at}
 use Rattle.soundness.specs.Check.{all_below}

@@ -1,5 +1,5 @@
 -- Each turn adds one slot: its bytes waiting are the two bytes read.
-use Rattle.std.proofs.Common.{◌≡◌, ◌-◌, ◌≤◌, ◌||◌}
+use Rattle.std.proofs.Common.{◌≡◌, ◌-◌, ◌≤◌}
 use Rattle.rules.specs.Numbers.{slots}
 use Rattle.soundness.specs.Check.{all_below}
 use Rattle.soundness.specs.Notes.{idle_rule}

@@ -1,6 +1,5 @@
 -- Before slot s the place is that of its first record, the total is the one before it, and the slots passed are tested.
-use Rattle.std.proofs.Common.{◌≡◌, ◌+◌, ◌-◌, ◌*◌, ◌%◌, ◌<◌, ◌≤◌, sym, refl, ◌∙◌, arith, rules}
-use Rattle.rules.specs.Numbers.{slots}
+use Rattle.std.proofs.Common.{◌+◌, ◌*◌, sym, refl, ◌∙◌, arith, rules}
 use Rattle.memory.specs.Reading.{first_at}
 use Rattle.soundness.specs.Notes.{sum_of}
 use Rattle.soundness.specs.Check.{all_below}

@@ -1,5 +1,5 @@
 -- Before slot s the place is that of its first record, the total is the one before it, and the slots passed are tested.
-use Rattle.std.proofs.Common.{◌≡◌, ◌+◌, ◌-◌, ◌*◌, ◌%◌, ◌<◌, ◌≤◌, ◌∙◌}
+use Rattle.std.proofs.Common.{◌≡◌, ◌-◌, ◌%◌, ◌≤◌}
 use Rattle.memory.specs.Reading.{first_at}
 use Rattle.soundness.specs.Notes.{length_at, sum_of, bytes_rule}
 use Rattle.soundness.specs.Check.{all_below}

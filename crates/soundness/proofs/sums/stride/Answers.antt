@@ -1,5 +1,5 @@
 -- Each turn tests one length and sets one place, eight on from the one that it is made of; the places before it stay.
-use Rattle.std.proofs.Common.{◌≡◌, ◌-◌, ◌≤◌, sym, refl, ap, ◌∙◌, arith, rules}
+use Rattle.std.proofs.Common.{◌≡◌, sym, refl, ap, ◌∙◌, arith, rules}
 use Rattle.soundness.specs.Notes.{length_at}
 use Rattle.soundness.specs.Check.{all_below, length_rule, lengths_rule}
 use Rattle.soundness.proofs.CheckTurns.{all-turn, all_end}

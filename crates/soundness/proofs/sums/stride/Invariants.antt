@@ -1,5 +1,5 @@
 -- Each turn tests one length and sets one place, eight on from the one that it is made of; the places before it stay.
-use Rattle.std.proofs.Common.{◌≡◌, ◌-◌, ◌≤◌, length, ◌∙◌}
+use Rattle.std.proofs.Common.{◌≡◌, ◌-◌, ◌≤◌, length}
 use Rattle.soundness.specs.Notes.{length_at, Strided}
 use Rattle.soundness.specs.Check.{all_below, length_rule}
 use Rattle.soundness.proofs.sums.stride.Given as goal

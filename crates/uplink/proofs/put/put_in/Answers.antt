@@ -1,7 +1,7 @@
 use borrow.Enum.Refused.{opened}
 use Rattle.uplink.proofs.put.put_in.Goals as goal
 -- Each test is a check of the rules; the record is taken, and the slot joins the rows where none waited.
-use Rattle.std.proofs.Common.{◌≡◌, ◌≤◌, false, [], length, sym, ◌∙◌, subst, lt_of_le_of_lt, arith, rules, leb-false}
+use Rattle.std.proofs.Common.{◌≡◌, ◌≤◌, false, [], length, sym, ◌∙◌, subst, lt_of_le_of_lt, arith, leb-false}
 use Rattle.spread.specs.Limits.{outside}
 use Rattle.spread.proofs.Limits.{between}
 use Rattle.rules.specs.Numbers.{slots, longest}
@@ -32,8 +32,6 @@ use Rattle.uplink.proofs.Putting.{
   puts-refused,
   puts-more,
 }
-use Rattle.uplink.proofs.put.put_in.Statement.{statement}
-use Rattle.uplink.proofs.put.put_in.Tie as tie
 
 pub returns-in_default : goal.returns-in_default
 returns-in_default c =
