@@ -1,7 +1,6 @@
 -- At each turn the digits left, after the value so far, read as all of them did at the start.
 use mathlib.Core.Path.{◌≡◌, refl, sym, ap, ◌∙◌}
 use mathlib.Core.Bool.{true}
-use Prim.Native.Nat.{◌≤◌, ◌-◌}
 use native.Mathlib.Omega.{arith}
 use lib.ListN.{length, get_or}
 use Rattle.text.specs.Digits.{is_digit}

@@ -1,5 +1,5 @@
 -- At each turn the digits left, after the value so far, read as all of them did at the start.
-use mathlib.Core.Path.{◌≡◌, ◌∙◌}
+use mathlib.Core.Path.{◌≡◌}
 use Prim.Native.Nat.{◌≤◌, ◌-◌}
 use lib.ListN.{length, drop}
 use Rattle.text.specs.Digits.{largest, digits_off}

@@ -1,6 +1,5 @@
 -- At each turn the line from the place ends where it did from the start: no line feed was passed.
-use mathlib.Core.Path.{◌≡◌, refl, sym, ◌∙◌}
-use Prim.Native.Nat.{◌≤◌, ◌-◌}
+use mathlib.Core.Path.{refl, sym, ◌∙◌}
 use native.Mathlib.Omega.{arith}
 use Rattle.text.proofs.LineLaws.{end-past, end_feed, end-byte}
 use Rattle.text.proofs.lines.line_end.Goals as goal

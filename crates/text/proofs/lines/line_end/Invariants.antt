@@ -1,5 +1,5 @@
 -- At each turn the line from the place ends where it did from the start: no line feed was passed.
-use mathlib.Core.Path.{◌≡◌, ◌∙◌}
+use mathlib.Core.Path.{◌≡◌}
 use Prim.Native.Nat.{◌≤◌, ◌-◌}
 use lib.ListN.{length}
 use Rattle.text.specs.Lines.{line_end}

@@ -1,6 +1,6 @@
 -- Each turn answers the line at `at`, and the rest of the text is shorter. The output has room for each line, since those before it printed little.
-use mathlib.Core.Path.{◌≡◌, ◌∙◌}
-use Prim.Native.Nat.{◌-◌, ◌<◌}
+use mathlib.Core.Path.{◌≡◌}
+use Prim.Native.Nat.{◌-◌}
 use lib.ListN.{length}
 use Rattle.text.proofs.OutputLaws.{Going}
 use Rattle.text.proofs.program.answer_all.Given as goal

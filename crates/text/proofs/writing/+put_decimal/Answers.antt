@@ -1,5 +1,5 @@
 -- The digits of n / 10 are written first, and the last digit after them; n falls at each call.
-use Rattle.std.proofs.Common.{◌≡◌, ℕ, ◌+◌, ◌/◌, ◌%◌, List, [], ◌∷◌, sym, ap, ◌∙◌, arith}
+use Rattle.std.proofs.Common.{ℕ, ◌+◌, ◌/◌, ◌%◌, List, [], ◌∷◌, sym, ap, ◌∙◌, arith}
 use Rattle.octets.specs.Writing.{written}
 use Rattle.octets.proofs.WritingLaws.{written_next}
 use Rattle.text.specs.Digits.{digits}

@@ -1,6 +1,5 @@
 -- At each turn the numbers passed are written.
-use mathlib.Core.Path.{◌≡◌, ◌∙◌}
-use mathlib.Core.List.{◌∷◌}
+use mathlib.Core.Path.{◌≡◌}
 use Prim.Native.Nat.{◌+◌, ◌-◌, ◌≤◌}
 use lib.ListN.{length, take}
 use Rattle.text.specs.Commands.{spaced}
