@@ -47,7 +47,7 @@ if is_stale; then
     echo "$name: rt is not on the PATH: install the Rattle kit (its START-HERE.md says how)" >&2
     exit 1
   fi
-  echo "$name: what has changed is proved and built: $takes on two cores if nothing has been yet" >&2
+  echo "$name: what has changed is proved and built: $takes if nothing has been yet" >&2
   began=$(date +%s)
   if ! build; then
     echo "$name: it could not be built: run 'rt check' in crates/$name and read its report" >&2
