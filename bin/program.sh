@@ -11,7 +11,7 @@ fi
 CDPATH='' cd "$(dirname "${BASH_SOURCE[0]}")/.." || exit 1
 program=target/bin/$name
 
-# What the program is made of: crates.txt, and the folder of its crate and of each crate that it lists below it.
+# The folders that the program is made of: that of its crate and of each crate that it lists below it in crates.txt.
 made_of() {
   awk -v name="$name" '
     function visit(crate, below, count, i) {
@@ -21,16 +21,25 @@ made_of() {
       for (i = 1; i <= count; i++) visit(below[i])
     }
     { sub(/#.*/, ""); if (split($0, line, ":") == 2) { gsub(/[ \t]/, "", line[1]); uses[line[1]] = line[2] } }
-    END { print "crates.txt"; visit(name) }' crates.txt
+    END { visit(name) }' crates.txt
 }
 
-# Whether the program is missing, or older than a file or a folder that it is made of. Edits that must be refused are no part of it.
+# Whether the program is missing, or older than crates.txt or than a file or a folder in what it is made of. What rt makes is no part of that, nor are edits
+# that must be refused.
 is_stale() {
-  local sources newer
-  [[ -x $program ]] || return 0
-  mapfile -t sources < <(made_of)
-  newer=$(find "${sources[@]}" -path '*/must-fail' -prune -o -newer "$program" -print -quit 2>/dev/null) || return 0
+  local folders newer
+  [[ -x $program && ! crates.txt -nt $program ]] || return 0
+  mapfile -t folders < <(made_of)
+  [[ ${#folders[@]} -gt 0 ]] || return 0
+  newer=$(find "${folders[@]}" -mindepth 1 -regex 'crates/[^/]*/\(out\|must-fail\)' -prune -o -newer "$program" -print -quit 2>/dev/null) || return 0
   [[ -n $newer ]]
+}
+
+# Has the program proved and built. rt runs it then, here on no input, and says what it does on standard error.
+build() {
+  (cd "crates/$name" && rt run </dev/null 2>&1 >/dev/null) |
+    sed -un -e '/^rt: \(chose\|running\) /d' -e "s/^rt: /$name: /p" -e "s/^crate \([a-z0-9_]*\): .*/$name: \1/p" >&2 &&
+    mkdir -p target/bin && cp "crates/$name/out/$name" "$program.new" && mv "$program.new" "$program"
 }
 
 if is_stale; then
@@ -38,10 +47,10 @@ if is_stale; then
     echo "$name: rt is not on the PATH: install the Rattle kit (its START-HERE.md says how)" >&2
     exit 1
   fi
-  echo "$name: what has changed is proved and built: $takes on two cores if nothing has been yet" >&2
+  echo "$name: what has changed is proved and built: $takes if nothing has been yet" >&2
   began=$(date +%s)
-  if ! rt check "$name" </dev/null 2>&1 | sed -un "s/^rt: /$name: /p" >&2 || [[ ! -x $program ]]; then
-    echo "$name: it could not be built: run 'rt check $name' and read its report" >&2
+  if ! build; then
+    echo "$name: it could not be built: run 'rt check' in crates/$name and read its report" >&2
     exit 1
   fi
   # What changes from here on is newer than the program, also where nothing had to be built.

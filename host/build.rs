@@ -1,4 +1,4 @@
-//! With the feature `linked`: links the archive of support's engine, target/staticlib/libsupport.a of the project, and stops where it has not been exported
+//! With the feature `linked`: links the archive of support's engine, target/staticlib/libsupport.a of the project, and stops where it has not been built
 //! yet. The archive of the adapter's entries is linked by uplink/.
 
 use std::env;
@@ -15,7 +15,7 @@ fn main() {
     let library = folder.join("libsupport.a");
     println!("cargo:rerun-if-changed={}", library.display());
     if !library.exists() {
-        eprintln!("target/staticlib/libsupport.a is missing. In the project's folder, run: rt staticlib support");
+        eprintln!("target/staticlib/libsupport.a is missing. In the project's folder, run: bin/archive support");
         exit(1);
     }
     println!("cargo:rustc-link-search=native={}", folder.display());

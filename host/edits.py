@@ -1,55 +1,82 @@
 #!/usr/bin/env python3
-"""Where each must-fail edit is refused, from the logs of the last `rt ci`: host/edits.py >docs/EDITS.md
+"""Where each must-fail edit is refused, from what the last `rt ci` said: host/edits.py >docs/EDITS.md
 
-An edit is refused at the declarations that no longer check by themselves; those that only cite one of them are left out. An edit whose every error is that
-a need of the proof file is gone shows nothing but the proof's shape: it is marked, and the script ends with 1.
+The gate keeps that in target/rt-ci.log; another file of such lines (of `rt ci` or `rt must-fail`) may be named. They say where an edit is refused first: by a
+goal of a function, or at a declaration of specs/ or proofs/. An edit that only takes away what a proof file names shows nothing but the proof's shape, and one that the
+prover only gives up on shows little: these are marked, and so is one that the log does not have, and the script ends with 1.
 """
 import re, sys
 from pathlib import Path
 
 ROOT = Path(__file__).resolve().parent.parent
-LOGS = ROOT / "target/must-fail"
-SHAPE = "can be named from here"
-FOLLOWS = "was not admitted"
 HEAD = """# Where each edit is refused
 
 The gate applies each edit of a crate's `must-fail/` and the check has to refuse it. An edit is tried on its own crate alone, so an edit of the rules is refused among
 the laws and computed cases of the rules, before any promise is reached, and an edit of the promises shows that a promise's own definitions carry weight; what the contracts of the code
-shut out is tried by edits of the code. The last column has the declarations that no longer check by themselves. Written by [host/edits.py](../host/edits.py) from the logs of `rt ci`.
+shut out is tried by edits of the code. The last column has the first place where the edit is refused: a goal and its function, or a declaration and its file. Written by
+[host/edits.py](../host/edits.py) from what `rt ci` said.
 
 | Edit | In | Was | Becomes | Refused at |
 |---|---|---|---|---|"""
 
 
-def refused_at(krate, label):
-    """The declarations that fail by themselves, as file and name, and whether only the proof's shape broke."""
-    log = (LOGS / krate / label / ".log").read_text()
-    # A function without a proof file is refused where the search for a need ends.
-    found = [(name, need) for name, need in re.findall(r"^fn \S*?(\w+): no proof: .*does not close `([^`]*)`", log, re.M)]
-    shape = not found
-    for file, name, said in re.findall(r"^\S*?/must-fail/\S+?/((?:proofs|specs|src)/\S+?):\d+:\d+: error: (?:`([^`]*)`)?(.*)$", log, re.M):
-        if FOLLOWS in said:
-            continue
-        shape &= SHAPE in said
-        place = Path(file).parent.name if Path(file).name == "Proof.antt" else Path(file).stem
-        if name and (place, name) not in found and SHAPE not in said:
-            found.append((place, name))
-    return found, shape
+def function_at(text, line, column):
+    """The function that a place of a source stands in: a goal of the whole function stands at its first line, which may be an attribute."""
+    lines = text.split("\n")
+    here = lambda at: re.match(r'\s*(?:pub(?:\([^)]*\))? )?(?:const )?(?:unsafe )?(?:extern "C" )?fn (\w+)', lines[at])
+    if column == 1:
+        while line <= len(lines) and lines[line - 1].startswith("#["):
+            line += 1
+    return next((found[1] for found in map(here, range(min(line, len(lines)) - 1, -1, -1)) if found), None)
+
+
+def refused_at(krate, said):
+    """Where the edit is refused, and whether that is a place that says something."""
+    if said is None:
+        return "**not in the log**", False
+    found = re.match(r"refused, as it must be(?: \((only [^:]*?)[,:][^)]*\))?:?(.*)", said)
+    if not found:
+        return f"**{said.split(':')[0]}**", False
+    if found[1]:
+        return "**only the proof's shape**" if "proof file" in found[1] else f"**{found[1]}**", False
+    place = re.match(r" ?(?:note: )?(?:\./)?((?:src|specs|proofs)/[^:\s]+):(\d+):(\d+): (?:error: )?(.*)", found[2])
+    if not place:
+        return f"{found[2].strip()[:80] or 'the check'}", True
+    file, line, column, why = place[1], int(place[2]), int(place[3]), place[4]
+    goal = re.search(r"\(`([^`]*)`\)|^`([^`]*)`:", why)
+    goal = goal and (goal[1] or goal[2])
+    if file.startswith("src/"):
+        where = function_at((ROOT / "crates" / krate / file).read_text(), line, column) or Path(file).stem
+    elif Path(file).name in ("Answers.antt", "Invariants.antt", "Proof.antt"):
+        where = Path(file).parent.name
+    else:
+        where = Path(file).stem
+    return f"`{goal}` ({where})" if goal else f"{where}", True
 
 
 def cell(text):
     return "`" + text.strip().replace("|", "\\|") + "`"
 
 
-print(HEAD)
-bad = 0
-for edit in sorted(ROOT.glob("crates/*/must-fail/*.edit")):
-    krate, label = edit.parent.parent.name, edit.stem
-    parts = re.findall(r"^file: (.*)\nold: (.*)\nnew: (.*)$", edit.read_text(), re.M)
-    found, shape = refused_at(krate, label)
-    bad += shape
-    more = f", and {len(found) - 4} more" if len(found) > 4 else ""
-    said = "**only the proof's shape**" if shape else "; ".join(f"`{name}` ({place})" for place, name in found[:4]) + more
-    for file, old, new in parts:
-        print(f"| [{krate}/{label}](../crates/{krate}/must-fail/{label}.edit) | {file} | {cell(old)} | {cell(new)} | {said} |")
-sys.exit(1 if bad else 0)
+def main():
+    log = Path(sys.argv[1]) if sys.argv[1:] else ROOT / "target/rt-ci.log"
+    said = dict(re.findall(r"^rt: must-fail (\w+/[\w.-]+)\.edit: (.*)$", log.read_text(), re.M))
+    print(HEAD)
+    bad = 0
+    for edit in sorted(ROOT.glob("crates/*/must-fail/*.edit")):
+        krate, label = edit.parent.parent.name, edit.stem
+        where, fine = refused_at(krate, said.get(f"{krate}/{label}"))
+        bad += not fine
+        file = None
+        for line in edit.read_text().split("\n"):
+            if line.startswith("file: "):
+                file = line[6:]
+            elif line.startswith("old: "):
+                old = line[5:]
+            elif line.startswith("new:"):
+                print(f"| [{krate}/{label}](../crates/{krate}/must-fail/{label}.edit) | {file} | {cell(old)} | {cell(line[4:])} | {where} |")
+    sys.exit(1 if bad else 0)
+
+
+if __name__ == "__main__":
+    main()

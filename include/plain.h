@@ -12,7 +12,7 @@
  * mixed on one state. The other calls, uplink_start and uplink_open among them, are the uplink's.
  *
  * To link: cc program.c target/staticlib/libsupport.a target/staticlib/libdriver.a. The archive, written by
- * `rt staticlib support`, is for x86-64 Linux and has no data that can be written; beside memcpy and memset it needs
+ * `bin/archive support`, is for x86-64 Linux and has no data that can be written; beside memcpy and memset it needs
  * nothing.
  *
  * Work: plain_next fills the matrix and takes its terms one by one, up to 2^order - 1 in edition 2, so it takes longer

@@ -6,7 +6,7 @@ mod rattle;
 use rattle::{functions, source, Function};
 
 /// Where the public calls stand, and which they are.
-const CALLS: [(&str, &[&str]); 12] = [
+const CALLS: [(&str, &[&str]); 14] = [
     ("uplink/src/open.rt", &["start", "open"]),
     ("uplink/src/put.rt", &["put"]),
     ("uplink/src/close.rt", &["close"]),
@@ -17,25 +17,28 @@ const CALLS: [(&str, &[&str]); 12] = [
     ("image/src/writer.rt", &["park"]),
     ("reader/src/reader.rt", &["unpark"]),
     ("sheet/src/lib.rt", &["check"]),
-    ("support/src/lib.rt", &["plain_put", "plain_next"]),
-    (
-        "driver/src/lib.rt",
-        &[
-            "uplink_start",
-            "uplink_open",
-            "uplink_put",
-            "uplink_close",
-            "uplink_next",
-            "uplink_ask",
-            "uplink_fullest",
-            "uplink_park",
-            "uplink_unpark",
-            "uplink_term",
-            "uplink_lead",
-            "uplink_sheet",
-        ],
-    ),
+    ("support/src/lib.rt", &SUPPORT),
+    ("support_c/src/lib.rt", &SUPPORT),
+    ("driver/src/lib.rt", &DRIVER),
+    ("driver_c/src/lib.rt", &DRIVER),
 ];
+
+/// The entries for C, of the adapter and of support's engine.
+const DRIVER: [&str; 12] = [
+    "uplink_start",
+    "uplink_open",
+    "uplink_put",
+    "uplink_close",
+    "uplink_next",
+    "uplink_ask",
+    "uplink_fullest",
+    "uplink_park",
+    "uplink_unpark",
+    "uplink_term",
+    "uplink_lead",
+    "uplink_sheet",
+];
+const SUPPORT: [&str; 2] = ["plain_put", "plain_next"];
 
 /// What is wrong with the contract of a public call.
 fn wrong(function: &Function) -> Option<String> {
@@ -72,10 +75,22 @@ fn every_exported_entry_is_listed() {
     }
 }
 
+/// What an archive exports has the parameters and the contract of the library's function, word for word. (That it calls that function is proved.)
+#[test]
+fn exported_entries_say_what_the_library_says() {
+    for library in ["driver", "support"] {
+        let entries = |name: &str| functions(&source(&format!("{name}/src/lib.rt"))).into_iter().filter(|function| function.exported);
+        let signatures: Vec<String> = entries(library).map(|entry| entry.signature).collect();
+        assert_eq!(entries(&format!("{library}_c")).map(|entry| entry.signature).collect::<Vec<_>>(), signatures);
+        assert!(signatures.iter().all(|signature| signature.contains(") -> u32 ensures { ") && signature.ends_with('}')), "{signatures:?}");
+    }
+}
+
 #[test]
 fn clauses_are_seen() {
-    let text = "// fn none() requires { no }\n#[no_mangle]\npub extern \"C\" fn one(a: &mut [u8], b: u32) -> u32\n    requires { ⌜ b ≡ 1 ⌝ }\n    \
-                ensures { λ r. ⌜ r ≡ { b } ⌝ }\n{\n    two(b)\n}\nfn two(b: u32) -> Found<u32> { b }\npub fn three()\n    ensures { x }\n{}\n";
+    let text = "// fn none() requires { no }\n#[unsafe(no_mangle)]\npub extern \"C\" fn one(a: &mut [u8], b: u32) -> u32\n    requires { b ≡ 1 }\n    \
+                ensures { result ≡ { b } }\n{\n    two(b)\n}\nfn two(b: u32) -> Found<u32> { b }\npub fn three()\n    ensures { x }\n{}\n\
+                pub fn five()\n    requires low { b ≡ 1 }\n    requires* place { x }\n    ensures high { x }\n{}\n";
     let found = functions(text);
     assert_eq!(
         found.iter().map(|f| (&f.name[..], f.public, f.exported, f.clauses.join(" "))).collect::<Vec<_>>(),
@@ -83,12 +98,17 @@ fn clauses_are_seen() {
             ("one", true, true, "requires ensures".to_string()),
             ("two", false, false, String::new()),
             ("three", true, false, "ensures".to_string()),
+            ("five", true, false, "requires requires ensures".to_string()),
         ]
     );
     assert_eq!(found[0].parameters, [("a".to_string(), "&mut [u8]".to_string()), ("b".to_string(), "u32".to_string())]);
     assert_eq!((&found[0].result[..], &found[1].result[..], &found[2].result[..]), ("u32", "Found<u32>", ""));
+    assert_eq!(found[0].signature, "one(a: &mut [u8], b: u32) -> u32 requires { b ≡ 1 } ensures { result ≡ { b } }");
+    assert_eq!((&found[1].signature[..], &found[2].signature[..]), ("two(b: u32) -> Found<u32>", "three() ensures { x }"));
     assert_eq!(wrong(&found[0]), Some("one has a requires".to_string()));
     assert_eq!(wrong(&found[1]), Some("two is not public".to_string()));
     assert_eq!(wrong(&found[2]), None);
+    assert_eq!(wrong(&found[3]), Some("five has a requires".to_string()));
     assert_eq!(wrong(&functions("pub fn four() {}")[0]), Some("four has no ensures".to_string()));
+    assert_eq!(wrong(&functions("pub fn six()\n    requires* { x }\n    ensures { x }\n{}\n")[0]), Some("six has a requires".to_string()));
 }

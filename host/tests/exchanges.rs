@@ -174,7 +174,7 @@ fn every_exchange_of_support_is_found() {
 /// The calls here have as many numbers as the entries of the code.
 #[test]
 fn every_parameter_is_tried() {
-    let entries = ["driver/src/lib.rt", "support/src/lib.rt"].into_iter().flat_map(|file| functions(&source(file)));
+    let entries = ["driver_c/src/lib.rt", "support_c/src/lib.rt"].into_iter().flat_map(|file| functions(&source(file)));
     let entries = entries.filter(|function| function.exported);
     let numbers = entries.map(|entry| (entry.name, entry.parameters.iter().filter(|(_, kind)| kind == "u32").count()));
     let tried = ENTRIES.into_iter().chain(SUPPORT).map(|(entry, mut call)| (entry.to_string(), call.numbers().len()));

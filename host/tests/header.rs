@@ -70,7 +70,7 @@ fn macros(header: &str) -> Numbers {
     }))
 }
 
-/// noSlot and NoSlot as NO_SLOT.
+/// no_slot and NoSlot as NO_SLOT.
 fn capitals(name: &str) -> String {
     let mut found = String::new();
     for (at, letter) in name.char_indices() {
@@ -233,7 +233,7 @@ fn in_c(header: &str) -> BTreeMap<String, Parameters> {
     })
 }
 
-/// The entries of a crate of the proved code. A slice is a pointer and a length in C, and one that is only read points to const.
+/// The entries that a crate of the proved code exports. A slice is a pointer and a length in C, and one that is only read points to const.
 fn in_rattle(name: &str) -> BTreeMap<String, Parameters> {
     let mut entries = BTreeMap::new();
     for entry in functions(&source(&format!("{name}/src/lib.rt"))).into_iter().filter(|function| function.exported) {
@@ -275,10 +275,10 @@ fn in_rust(file: &str) -> BTreeMap<String, Parameters> {
 
 /// The same entries with the same parameters, in the order of their places.
 fn compare(declared: BTreeMap<String, Parameters>) {
-    let entries = in_rattle("driver");
+    let entries = in_rattle("driver_c");
     assert_eq!(declared.keys().collect::<Vec<_>>(), entries.keys().collect::<Vec<_>>());
     for (name, parameters) in declared {
-        assert_eq!(parameters, entries[&name], "{name}, beside crates/driver/src/lib.rt");
+        assert_eq!(parameters, entries[&name], "{name}, beside crates/driver_c/src/lib.rt");
     }
 }
 
@@ -298,7 +298,7 @@ fn plain_declares_the_calls_of_the_uplink() {
     let (uplink, header) = (in_c("uplink"), header_of("plain"));
     assert!(header.contains("#include \"uplink.h\""));
     assert_eq!(header.lines().filter(|line| line.starts_with("#define")).collect::<Vec<_>>(), ["#define PLAIN_H"]);
-    for entries in [in_c("plain"), in_rust("src/entries.rs"), in_rattle("support")] {
+    for entries in [in_c("plain"), in_rust("src/entries.rs"), in_rattle("support_c")] {
         assert_eq!(entries.keys().collect::<Vec<_>>(), ["plain_next", "plain_put"]);
         for (name, parameters) in entries {
             assert_eq!(parameters, uplink[&name.replace("plain_", "uplink_")], "{name}");

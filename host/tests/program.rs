@@ -21,7 +21,7 @@ fn project() -> PathBuf {
 
 fn program() -> PathBuf {
     let program = project().join("target/bin/lift");
-    assert!(program.exists(), "{} is missing: `rt check lift` builds it", program.display());
+    assert!(program.exists(), "{} is missing: `bin/lift </dev/null` builds it", program.display());
     program
 }
 

@@ -31,7 +31,9 @@ fn holds_terms(bytes: &[u8]) -> bool {
 /// The crates that a crate is made of, itself among them, by crates.txt.
 fn linked_by(name: &str) -> BTreeSet<String> {
     let listed = String::from_utf8(read("crates.txt")).unwrap();
-    let uses: BTreeMap<&str, &str> = listed.lines().filter_map(|line| line.split_once(':')).collect();
+    let lines = listed.lines().filter_map(|line| line.split_once(':'));
+    // A static library has that word behind its name.
+    let uses: BTreeMap<&str, &str> = lines.map(|(head, uses)| (head.split_whitespace().next().unwrap_or_default(), uses)).collect();
     let (mut found, mut left) = (BTreeSet::new(), vec![name]);
     while let Some(name) = left.pop() {
         if found.insert(name.to_string()) {
@@ -51,12 +53,12 @@ fn written() -> Vec<u8> {
 
 #[test]
 fn neither_entries_nor_program_are_made_of_it() {
-    for name in ["driver", "lift"] {
+    for name in ["driver_c", "lift"] {
         let crates = linked_by(name);
         assert!(crates.contains("spread") && crates.contains("bits"), "{name} is made of {crates:?}");
         assert!(!crates.contains("terms"), "{name} links the table of terms");
     }
-    assert!(linked_by("support").contains("terms"));
+    assert!(linked_by("support_c").contains("terms"));
 }
 
 #[test]

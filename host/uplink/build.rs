@@ -1,4 +1,4 @@
-//! Links the static library of the C entries, target/staticlib/libdriver.a of the project, and stops where it has not been exported yet.
+//! Links the static library of the C entries, target/staticlib/libdriver.a of the project, and stops where it has not been built yet.
 
 use std::env;
 use std::path::Path;
@@ -11,7 +11,7 @@ fn main() {
     let library = folder.join("libdriver.a");
     println!("cargo:rerun-if-changed={}", library.display());
     if !library.exists() {
-        eprintln!("target/staticlib/libdriver.a is missing. In the project's folder, run: rt staticlib driver");
+        eprintln!("target/staticlib/libdriver.a is missing. In the project's folder, run: bin/archive driver");
         exit(1);
     }
     println!("cargo:rustc-link-search=native={}", folder.display());

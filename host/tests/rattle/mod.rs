@@ -24,8 +24,10 @@ pub struct Function {
     pub parameters: Vec<(String, String)>,
     /// Empty where it has none.
     pub result: String,
-    /// The words before the braces of its contract, in order.
+    /// The kinds of the clauses of its contract, in order: `requires`, `ensures`. A clause's own name, and the star of one about memory, are left out.
     pub clauses: Vec<String>,
+    /// All that stands from its name to its body, with single spaces.
+    pub signature: String,
 }
 
 /// The functions of a text, in order.
@@ -58,10 +60,13 @@ fn function(head: &str, text: &str) -> Function {
     }
     while !rest.starts_with('{') {
         let (clause, after) = rest.split_once('{').expect("a function has a body");
-        clauses.push(clause.trim().to_string());
+        let kind = clause.split_whitespace().next().expect("a clause says of which kind it is");
+        clauses.push(kind.trim_end_matches('*').to_string());
         rest = behind(after).trim_start();
     }
-    Function { name: name.to_string(), public: head.starts_with("pub"), exported: head.contains("extern"), parameters, result, clauses }
+    let signature = text[..text.len() - rest.len()].split_whitespace().collect::<Vec<_>>().join(" ");
+    let (public, exported) = (head.starts_with("pub"), head.contains("extern"));
+    Function { name: name.to_string(), public, exported, parameters, result, clauses, signature }
 }
 
 /// What stands behind the brace that closes one already opened.
