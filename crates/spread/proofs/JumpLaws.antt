@@ -21,7 +21,7 @@ use Rattle.spread.specs.Sequence.{term}
 use Rattle.spread.specs.Visits.{column_at}
 use Rattle.spread.specs.Jump.{filled_at, searched, multiple, jump, Found, landing}
 
--- ---- the searched
+-- ---- the search
 
 pub search-found : (f k u p t : ℕ) → p < t → t < 2 ^ k → t ≤ p + f → bit (column_at k t) u ≡ 1
     → ((q : ℕ) → p < q → q < t → bit (column_at k q) u ≡ 0) → searched f k u p ≡ some t
@@ -135,7 +135,7 @@ module _ (k u p : ℕ) (h : 0 < u) (o : order u ≤ k) where
         | inr odd ↦ absurd (let one : bit (column_at k (m * D)) u ≡ 1 = column-filled k u m h o odd in omega arith)
       ]
 
-  -- the searched one by one gives what the two candidates give
+  -- the search one by one gives what the two candidates give
   pub jump-law : searched (2 ^ k) k u p ≡ jump k u p
   unfolding d jump
   jump-law = go (ltb a (2 ^ k)) refl (filled_at k u a) refl
