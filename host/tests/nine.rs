@@ -183,11 +183,11 @@ fn nine_as_an_answer_is_told_from_other_nines() {
         "gives 9,216 bytes, number 90, R 99, 8, 90, 18, 9 and 9, 100",
         "in case 9, 1,014 is taken and 1,015 refused",
         "      order = 9;",
-        "at-wrap = slotted 0 (record { kind = opened; ticket = 9; weight = 1; deficit = 0 })",
+        "at_wrap = slotted 0 (record { kind = opened; ticket = 9; weight = 1; deficit = 0 })",
         "code position = 9",
         "`soundness/mask_with_no_row`",
         "    9,",
-        "pub nine-unused : {A : Type 0} (a : Answer A) → number a ≡ 9 → ⊥",
+        "pub nine_unused : {A : Type 0} (a : Answer A) → number a ≡ 9 → ⊥",
     ];
     for line in others {
         assert!(!speaks(line), "found: {line}");
