@@ -13,11 +13,14 @@ use uplink::open::open;
 use uplink::put::put;
 
 // The call of a command, and its line of output. Answers the place after the line.
-fn answer(state: &mut [u8], command: Command, out: &mut [u8], place: usize) -> usize
+fn answer(state: &mut [u8], command: Option<Command>, out: &mut [u8], place: usize) -> usize
     requires { place + widest ≤ length out.old }
     ensures state_after { state.new ≡ (answer_to state.old (call_of command)).bytes }
     ensures prints { Prints out.old place (answer_to state.old (call_of command)).line result out.new }
 {
+    let Some(command) = command else {
+        return print_unknown(out, place);
+    };
     match command {
         Command::Open(weight) => {
             let told = open(state, weight);
@@ -34,9 +37,6 @@ fn answer(state: &mut [u8], command: Command, out: &mut [u8], place: usize) -> u
         Command::Next => {
             let told = next(state);
             return print_next(out, place, told);
-        }
-        Command::Other => {
-            return print_unknown(out, place);
         }
     }
 }
