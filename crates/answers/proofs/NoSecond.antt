@@ -2,7 +2,9 @@
 use mathlib.Core.Path.{◌≡◌, refl, sym, ap, ◌∙◌}
 use Rattle.answers.specs.Answer as answer
 use Rattle.answers.specs.Answer.{Answer, refused}
-use Rattle.answers.specs.Told.{refusal_told}
+use Rattle.std.specs.Prelude.{Result, Ok, Err}
+use Rattle.answers.specs.Told.{refusal_told, told}
+use Rattle.answers.proofs.Answers.{refused-given, given_inj}
 use Rattle.answers.specs.declared.Refusal.{Refusal}
 use Rattle.answers.specs.declared.Refusal.TheVariants as refusal
 
@@ -48,3 +50,10 @@ refusal-told-once p q e = sym (back p) ∙ ap refusal_of e ∙ back q
 
 pub refused-once : {A : Type 0} (p q : Refusal) → ◌≡◌ {A = Answer A} (refused (refusal_told p)) (refused (refusal_told q)) → p ≡ q
 refused-once p q e = let same : refusal_told p ≡ refusal_told q = cc in refusal-told-once p q same
+
+-- and so is any answer, whose values are told from each other by what f says of them
+pub told-once : {A B : Type 0} (f : A → B) → ((a b : A) → f a ≡ f b → a ≡ b) → (x y : Result A Refusal) → told f x ≡ told f y → x ≡ y
+told-once f once (Ok a) (Ok b) e = ap Ok (once a b (given_inj e))
+told-once f once (Ok a) (Err q) e = absurd (refused-given (sym e))
+told-once f once (Err p) (Ok b) e = absurd (refused-given e)
+told-once f once (Err p) (Err q) e = ap Err (refused-once p q e)

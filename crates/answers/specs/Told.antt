@@ -1,4 +1,5 @@
--- Which row of document 01's table each case of the code's enum is.
+-- Which row of document 01's table each case of the code's enum is, and what a call answers.
+use Rattle.std.specs.Prelude.{Result, Ok, Err}
 use Rattle.answers.specs.Answer as answer
 use Rattle.answers.specs.declared.Refusal.{Refusal}
 use Rattle.answers.specs.declared.Refusal.TheVariants as refusal
@@ -20,3 +21,8 @@ refusal_told refusal.Parked = answer.parked
 refusal_told refusal.BadImage = answer.bad_image
 refusal_told refusal.ShortBuffer = answer.short_buffer
 refusal_told refusal.TooMany = answer.too_many
+
+-- a refusal, or what f says of the values given
+abbrev pub told : {A B : Type 0} → (A → B) → Result A Refusal → answer.Answer B
+told f (Ok a) = answer.given (f a)
+told f (Err r) = answer.refused (refusal_told r)
