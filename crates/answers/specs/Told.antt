@@ -1,4 +1,4 @@
--- Which row of document 01's table each case of the code's enum is, and what a call answers.
+-- Which row of document 01's table each case of the code's enum is, and what a call of the code answers.
 use Rattle.std.specs.Prelude.{Result, Ok, Err}
 use Rattle.answers.specs.Answer as answer
 use Rattle.answers.specs.declared.Refusal.{Refusal}
@@ -22,7 +22,7 @@ refusal_told refusal.BadImage = answer.bad_image
 refusal_told refusal.ShortBuffer = answer.short_buffer
 refusal_told refusal.TooMany = answer.too_many
 
--- a refusal, or what f says of the values given
-abbrev pub told : {A B : Type 0} → (A → B) → Result A Refusal → answer.Answer B
-told f (Ok a) = answer.given (f a)
-told f (Err r) = answer.refused (refusal_told r)
+-- the answer that a call of the code gives
+abbrev pub answered : {A : Type 0} → Result A Refusal → answer.Answer A
+answered (Ok a) = answer.given a
+answered (Err r) = answer.refused (refusal_told r)
