@@ -3,7 +3,7 @@ use Rattle.std.proofs.Common.{ap, ◌∙◌}
 use Rattle.memory.specs.Layout.{bytes_of}
 use Rattle.uplink.proofs.Lending.{holds-size}
 use Rattle.uplink.proofs.Putting.{rises}
-use Rattle.uplink.proofs.put.rise.Goals as goal
+use Rattle.uplink.proofs.engine.JumpingEngine.rise.Goals as goal
 
 pub load_order-requires : goal.load_order-requires
 load_order-requires c = holds-size c.requires.held
