@@ -21,7 +21,6 @@ use octets::low_first::write_u64;
 use reader::UnparkAnswer;
 use records::{sent, taken};
 use sheet::SheetAnswer;
-use spread::{LeadAnswer, TermAnswer};
 use uplink::{AskAnswer, CloseAnswer, FullestAnswer, OpenAnswer, StartAnswer};
 
 pub mod fields; // fields.rt: numbers and fields
@@ -199,11 +198,11 @@ pub extern "C" fn uplink_term(order: u32, position: u32, answer: &mut [u8]) -> u
         return wrong_length();
     }
     match spread::term(order, position) {
-        TermAnswer::Term(term) => {
+        Ok(term) => {
             let fields = [term];
             give(answer, &fields)
         }
-        TermAnswer::Refused(why) => refuse(answer, why),
+        Err(why) => refuse(answer, why),
     }
 }
 
@@ -216,11 +215,11 @@ pub extern "C" fn uplink_lead(w1: u32, v1: u32, w2: u32, v2: u32, answer: &mut [
         return wrong_length();
     }
     match spread::lead(w1, v1, w2, v2) {
-        LeadAnswer::Lead(lead) => {
+        Ok(lead) => {
             write_u64(answer, 0, 1, bits_of(lead));
             0
         }
-        LeadAnswer::Refused(why) => refuse(answer, why),
+        Err(why) => refuse(answer, why),
     }
 }
 
