@@ -62,9 +62,10 @@ fn position_left(state: &[u8], slot: usize, order: u32) -> Position
     ensures { result ≡ cond (falls_order (state_of state.now) slot) ((state_of state.now).scan.position % 2 ^ order) 0 }
 {
     if falls(state, slot) {
-        return load_position(state) % turns(order);
+        load_position(state) % turns(order)
+    } else {
+        0
     }
-    0
 }
 
 // The memory with another order, and another P.
@@ -73,12 +74,6 @@ fn reorder(state: &mut [u8], order: u32, position: Position)
     ensures { state.new ≡ bytes_of (reordered (state_of state.old) order position) }
 {
     let scan = load_scan(state);
-    let left = Scan {
-        position,
-        column: scan.column,
-        mask: scan.mask,
-        visit: scan.visit,
-    };
     store_order(state, order as u8);
-    store_scan(state, left);
+    store_scan(state, Scan { position, ..scan });
 }

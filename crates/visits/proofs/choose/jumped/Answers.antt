@@ -68,9 +68,6 @@ landed-found-requires-2 c =
 pub turns-requires : goal.turns-requires
 turns-requires c = let (C, o, v, m) = c.requires in order-low C o
 
-pub overflow_sub-terms : goal.overflow_sub-terms
-overflow_sub-terms c = let (C, o, v, m) = c.requires in omega (arith, position-low C o, c.turns.ensures)
-
 pub overflow_cast-afresh : goal.overflow_cast-afresh
 overflow_cast-afresh c =
     let (C, o, v, m) = c.requires in
