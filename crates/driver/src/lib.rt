@@ -21,6 +21,7 @@ use octets::low_first::write_u64;
 use reader::UnparkAnswer;
 use records::{sent, taken};
 use sheet::SheetAnswer;
+use spread::{LeadAnswer, TermAnswer};
 use uplink::{AskAnswer, CloseAnswer, FullestAnswer, OpenAnswer, StartAnswer};
 
 pub mod fields; // fields.rt: numbers and fields
@@ -198,11 +199,11 @@ pub extern "C" fn uplink_term(order: u32, position: u32, answer: &mut [u8]) -> u
         return wrong_length();
     }
     match spread::term(order, position) {
-        Ok(term) => {
+        TermAnswer::Term(term) => {
             let fields = [term];
             give(answer, &fields)
         }
-        Err(why) => refuse(answer, why),
+        TermAnswer::Refused(why) => refuse(answer, why),
     }
 }
 
@@ -215,11 +216,11 @@ pub extern "C" fn uplink_lead(w1: u32, v1: u32, w2: u32, v2: u32, answer: &mut [
         return wrong_length();
     }
     match spread::lead(w1, v1, w2, v2) {
-        Ok(lead) => {
+        LeadAnswer::Lead(lead) => {
             write_u64(answer, 0, 1, bits_of(lead));
             0
         }
-        Err(why) => refuse(answer, why),
+        LeadAnswer::Refused(why) => refuse(answer, why),
     }
 }
 

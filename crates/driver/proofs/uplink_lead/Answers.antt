@@ -12,15 +12,15 @@ use Rattle.driver.proofs.uplink_lead.Goals as goal
 pub returns-then-answer-ne8 : goal.returns-then-answer-ne8
 returns-then-answer-ne8 c = rw c.wrong_length.ensures (entered-kept _ _ _ _ _ c.if-answer-ne8.true)
 
-pub returns-in-Ok : goal.returns-in-Ok
-returns-in-Ok c =
+pub returns-in-Lead : goal.returns-in-Lead
+returns-in-Lead c =
     let room = c.if-answer-ne8.false in
-    let exact = to_z-of_z {w = w64} {z = c.in-Ok.lead} (search rules) in
+    let exact = to_z-of_z {w = w64} {z = c.in-Lead.lead} (search rules) in
     let bits = c.bits_of.ensures ∙ ap twos exact in
-    entered-given _ _ _ _ _ _ room (ap stateless (rw c.in-Ok.is at c.lead.ensures))
+    entered-given _ _ _ _ _ _ room (ap stateless (rw c.in-Lead.is at c.lead.ensures))
     (refl, c.write_u64.ensures ∙ put_whole 8 _ _ room ∙ ap (low_first 8) bits)
 
-pub returns-in-Err : goal.returns-in-Err
-returns-in-Err c =
-    let told = c.in-Err.is in
+pub returns-in-Refused : goal.returns-in-Refused
+returns-in-Refused c =
+    let told = c.in-Refused.is in
     entered-refused _ _ _ _ _ _ c.if-answer-ne8.false (ap stateless (rw told at c.lead.ensures)) c.refuse.ensures

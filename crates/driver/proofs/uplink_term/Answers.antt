@@ -7,12 +7,12 @@ use Rattle.driver.proofs.uplink_term.Goals as goal
 pub returns-then-answer-ne4 : goal.returns-then-answer-ne4
 returns-then-answer-ne4 c = rw c.wrong_length.ensures (entered-kept _ _ _ _ _ c.if-answer-ne4.true)
 
-pub returns-in-Ok : goal.returns-in-Ok
-returns-in-Ok c =
-    let told = c.in-Ok.is in
+pub returns-in-Term : goal.returns-in-Term
+returns-in-Term c =
+    let told = c.in-Term.is in
     entered-given _ _ _ _ _ _ c.if-answer-ne4.false (ap stateless (rw told at c.term.ensures)) c.give.ensures
 
-pub returns-in-Err : goal.returns-in-Err
-returns-in-Err c =
-    let told = c.in-Err.is in
+pub returns-in-Refused : goal.returns-in-Refused
+returns-in-Refused c =
+    let told = c.in-Refused.is in
     entered-refused _ _ _ _ _ _ c.if-answer-ne4.false (ap stateless (rw told at c.term.ensures)) c.refuse.ensures
