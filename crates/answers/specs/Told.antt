@@ -1,4 +1,5 @@
--- Which row of document 01's table each case of the code's enum is.
+-- Which row of document 01's table each case of the code's enum is, and what a call of the code answers.
+use Rattle.std.specs.Prelude.{Result, Ok, Err}
 use Rattle.answers.specs.Answer as answer
 use Rattle.answers.specs.declared.Refusal.{Refusal}
 use Rattle.answers.specs.declared.Refusal.TheVariants as refusal
@@ -20,3 +21,8 @@ refusal_told refusal.Parked = answer.parked
 refusal_told refusal.BadImage = answer.bad_image
 refusal_told refusal.ShortBuffer = answer.short_buffer
 refusal_told refusal.TooMany = answer.too_many
+
+-- the answer that a call of the code gives
+abbrev pub answered : {A : Type 0} → Result A Refusal → answer.Answer A
+answered (Ok a) = answer.given a
+answered (Err r) = answer.refused (refusal_told r)

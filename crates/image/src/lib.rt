@@ -5,17 +5,8 @@
 // gives the same state, and that each sound state has one image. It is of the memory's base alone.
 #![tactic(auto)]
 
-use answers::Refusal;
-
 pub mod parts; // parts.rt: numbers in bytes, put into a buffer at a place
 pub mod writer; // writer.rt: the image of a lent memory
 
 // The bytes of a record.
 pub const RECORD_BYTES: usize = 6;
-
-// The image's length.
-#[derive(Clone, Copy)]
-pub enum ParkAnswer {
-    Parked(u32),
-    Refused(Refusal),
-}

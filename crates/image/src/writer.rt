@@ -16,8 +16,8 @@ ghost use Rattle.image.specs.Reading.{newest};
 ghost use Rattle.image.specs.Parked.{parking, stored_base, park_on};
 ghost use Rattle.image.specs.Told.{park_told};
 
+use super::RECORD_BYTES;
 use super::parts::{put_bytes, put_parts};
-use super::{ParkAnswer, RECORD_BYTES};
 use answers::Refusal;
 use memory::heads::{load_head, waiting_of};
 use memory::layout::{BASE, EDITION, ROWS};
@@ -150,36 +150,36 @@ pub fn put_image(buffer: &mut [u8], state: &[u8], version: usize, size: usize) -
 }
 
 // The writer of a version: 10, 14, then 16; else the image stands in the buffer from its first byte on, the bytes behind it stay, and the state is parked.
-pub fn park_version(state: &mut [u8], image: &mut [u8], version: usize) -> ParkAnswer
+pub fn park_version(state: &mut [u8], image: &mut [u8], version: usize) -> Result<u32, Refusal>
     requires { (1 ≤ version) × (version ≤ newest) }
     ensures { parking (park_told result) state.new image.new ≡ park_on version state.old image.old }
 {
     if !check(state) {
-        return ParkAnswer::Refused(Refusal::Unsound);
+        return Err(Refusal::Unsound);
     }
     if is_parked(state) {
-        return ParkAnswer::Refused(Refusal::Parked);
+        return Err(Refusal::Parked);
     }
     let end = BASE;
     park_on(&mut state[..end], image, version)
 }
 
 // The writer on the base of a memory that takes calls: the image is of the base alone, and the notes stay.
-fn park_on(state: &mut [u8], image: &mut [u8], version: usize) -> ParkAnswer
+fn park_on(state: &mut [u8], image: &mut [u8], version: usize) -> Result<u32, Refusal>
     requires { (sound_base state.old ≡ true) × (1 ≤ version) × (version ≤ newest) }
     ensures { parking (park_told result) state.new image.new ≡ stored_base (image_of version (state_of state.old)) state.old image.old }
 {
     let size = length_of(state, version);
     if image.len() < size {
-        return ParkAnswer::Refused(Refusal::ShortBuffer);
+        return Err(Refusal::ShortBuffer);
     }
     put_image(image, state, version, size);
     memory::point::park(state);
-    ParkAnswer::Parked(size as u32)
+    Ok(size as u32)
 }
 
 // The writer: "version byte 1".
-pub fn park(state: &mut [u8], image: &mut [u8]) -> ParkAnswer
+pub fn park(state: &mut [u8], image: &mut [u8]) -> Result<u32, Refusal>
     ensures { parking (park_told result) state.new image.new ≡ park_on 1 state.old image.old }
 {
     park_version(state, image, 1)

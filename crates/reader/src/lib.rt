@@ -5,15 +5,7 @@
 // proofs/ shows that of a sound state's image it becomes that state's memory.
 #![tactic(auto)]
 
-use answers::Refusal;
-
 pub mod taking; // taking.rt: numbers in bytes, taken from a place of any bytes
 pub mod decode; // decode.rt: a memory's base built from an image
 pub mod notes; // notes.rt: the notes behind it, worked out afresh
 pub mod reader; // reader.rt: the memory of an image
-
-#[derive(Clone, Copy)]
-pub enum UnparkAnswer {
-    Read,
-    Refused(Refusal),
-}

@@ -12,7 +12,6 @@ ghost use Rattle.image.specs.Parked.{leaving, read_on};
 ghost use Rattle.reader.specs.Received.{Received};
 ghost use Rattle.reader.specs.Told.{unpark_told};
 
-use super::UnparkAnswer;
 use super::decode::decode;
 use super::notes::note_all;
 use super::taking::byte_at;
@@ -84,16 +83,16 @@ fn receive(memory: &mut [u8], image: &[u8]) -> bool
 }
 
 // The reader: 10 for the length alone, then 15, and each lent byte stays; else the lent memory becomes that of the image's state.
-pub fn unpark(state: &mut [u8], image: &[u8]) -> UnparkAnswer
+pub fn unpark(state: &mut [u8], image: &[u8]) -> Result<(), Refusal>
     ensures { leaving (unpark_told result) state.new ≡ read_on image.now state.old }
 {
     if state.len() != LENGTH {
-        return UnparkAnswer::Refused(Refusal::Unsound);
+        return Err(Refusal::Unsound);
     }
     let mut memory: [u8; LENGTH] = [0; LENGTH];
     if !receive(&mut memory, image) {
-        return UnparkAnswer::Refused(Refusal::BadImage);
+        return Err(Refusal::BadImage);
     }
     put_bytes(state, 0, &memory);
-    UnparkAnswer::Read
+    Ok(())
 }

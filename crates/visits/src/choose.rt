@@ -1,6 +1,6 @@
 // Which slot sends next: the open visit's, else the first still to visit, else the first of the next column that has a row.
 //
-// Nothing is written here: the scan point goes in by value, is altered by the stepping routine (step.rt), and comes back with the slot and the order.
+// Nothing is written here: the scan point goes in by value, is altered by the stepping routines (step.rt), and comes back with the slot and the order.
 ghost use Rattle.std.specs.Prelude.{◌≡◌, ◌^◌, ◌≤◌, ◌<◌};
 ghost use Rattle.std.proofs.Math.Option.{some, map};
 ghost use Rattle.spread.specs.Limits.{columns};
@@ -9,14 +9,15 @@ ghost use Rattle.memory.specs.Reading.{in_mask, state_of};
 ghost use Rattle.memory.specs.Search.{RowsWithin, first_slot};
 ghost use Rattle.visits.specs.Choice.{chosen_of, in_chosen, landed_in, Visits, Chooses};
 
-use super::step::{Step, stepped};
+use super::step::{start_visit, take_term};
 use bits::order_of;
 use memory::layout::Position;
 use memory::point::{Scan, load_order, turns};
 use memory::search::{column_of, first_in, union_of_rows};
 use spread::jump::{column_at, next_filled};
 
-// The slot, 1 if its visit starts now else 0, the terms taken, the order, and the scan point with that visit open.
+// The slot, 1 if its visit starts now else 0, the terms taken, the order, and the scan point with that visit open. (No bool: it is a number of the answer, and the
+// grant is paid that many times, as paid_head says.)
 #[derive(Clone, Copy)]
 pub struct Chosen {
     pub slot: usize,
@@ -31,11 +32,10 @@ pub fn choose(state: &[u8], scan: Scan) -> Chosen
     requires { Chooses state.now scan }
     ensures { some result ≡ map in_chosen (chosen_of (state_of state.now)) }
 {
-    let visit = scan.visit;
     let order = load_order(state);
-    if visit != 0 {
+    if scan.visit != 0 {
         return Chosen {
-            slot: visit as usize - 1,
+            slot: usize::from(scan.visit) - 1,
             started: 0,
             terms: 0,
             order,
@@ -55,8 +55,7 @@ fn jumped(state: &[u8], order: u8, scan: Scan) -> Chosen
     ensures { some result ≡ map in_chosen (chosen_of (state_of state.now)) }
 {
     let union = union_of_rows(state);
-    let next = next_filled(order as u32, union, scan.position as u32);
-    if next != 0 {
+    if let Some(next) = next_filled(order as u32, union, scan.position as u32) {
         let found = landed(state, order as u32, next as Position, scan);
         return first_visit(state, next - scan.position as u32, order, found);
     }
@@ -67,34 +66,28 @@ fn jumped(state: &[u8], order: u8, scan: Scan) -> Chosen
 }
 
 // The first slot to visit, in row order, starts its visit and goes off the list.
-fn first_visit(state: &[u8], terms: u32, order: u8, scan: Scan) -> Chosen
+fn first_visit(state: &[u8], terms: u32, order: u8, mut scan: Scan) -> Chosen
     requires { RowsWithin state.now × (first_slot (in_mask scan.mask (state_of state.now).rows) < slots) }
     ensures { Visits terms order scan (first_slot (in_mask scan.mask (state_of state.now).rows)) result }
 {
     let slot = first_in(state, scan.mask);
-    let left = stepped(scan, Step::Visit(slot));
+    start_visit(&mut scan, slot);
     Chosen {
         slot,
         started: 1,
         terms,
         order,
-        scan: left,
+        scan,
     }
 }
 
 // The term at a position of a round of the order is taken: "the column is k minus the term", and all its rows become the slots to visit.
-fn landed(state: &[u8], order: u32, position: Position, scan: Scan) -> Scan
+fn landed(state: &[u8], order: u32, position: Position, mut scan: Scan) -> Scan
     requires { RowsWithin state.now × (order ≤ columns) × (0 < position) × (position < 2 ^ order) }
     ensures { result ≡ landed_in (state_of state.now) order position scan }
 {
-    let column = column_at(order, position as u32);
+    let column = column_at(order, u32::from(position));
     let mask = column_of(state, column);
-    stepped(
-        scan,
-        Step::Term {
-            position,
-            column: column as u8,
-            mask,
-        },
-    )
+    take_term(&mut scan, position, column as u8, mask);
+    scan
 }

@@ -61,13 +61,7 @@ fn row_left(state: &mut [u8], slot: usize, head: Head, scan: Scan)
     ensures { (z : Settling state.old slot head scan) → z.channel.waiting ≡ [] → state.new ≡ bytes_of (rowless z.state slot z.channel) }
 {
     row_gone(state, slot, head);
-    let left = Scan {
-        position: scan.position,
-        column: scan.column,
-        mask: scan.mask,
-        visit: 0,
-    };
-    store_scan(state, left);
+    store_scan(state, Scan { visit: 0, ..scan });
 }
 
 // The row leaves, and its channel is emptied.
@@ -86,20 +80,14 @@ fn emptied(head: Head) -> Head
     ensures { (c : Channel) → head ≡ head_of c → result ≡ head_of (rules.emptied c.kind c) }
 {
     if head.kind == 1 {
-        return Head {
-            kind: 1,
-            ticket: head.ticket,
-            weight: head.weight,
-            deficit: 0,
-            serial: head.serial,
-        };
+        return Head { deficit: 0, ..head };
     }
     Head {
         kind: 0,
-        ticket: head.ticket,
         weight: 0,
         deficit: 0,
         serial: 0,
+        ..head
     }
 }
 
@@ -112,23 +100,18 @@ fn row_stays(state: &mut [u8], slot: usize, place: usize, head: Head, scan: Scan
     let next = load_record(state, place);
     let cost = cost_of(next.length);
     let visit = visit_left(slot, cost, head.deficit);
-    let left = Scan {
-        position: scan.position,
-        column: scan.column,
-        mask: scan.mask,
-        visit,
-    };
     store_head(state, slot, head);
-    store_scan(state, left);
+    store_scan(state, Scan { visit, ..scan });
 }
 
-// The number of the visit that stays open: one more than the slot, and 0 for none.
+// The number of the visit that stays open: one more than the slot, and 0 for none. (No Option: it is the byte the memory holds, as the definition in_numbers says.)
 fn visit_left(slot: usize, cost: u32, deficit: u16) -> u8
     requires { slot < slots }
     ensures { result ≡ visit_number (cond (leb cost deficit) (some slot) none) }
 {
-    if cost <= deficit as u32 {
-        return slot as u8 + 1;
+    if cost <= u32::from(deficit) {
+        slot as u8 + 1
+    } else {
+        0
     }
-    0
 }

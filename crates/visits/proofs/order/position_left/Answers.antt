@@ -1,6 +1,6 @@
--- The rest of the division by 2 to the order, which is not 0, or 0.
+-- The rest of the division by 2 to the order.
 use mathlib.Core.Path.{◌≡◌, sym, ◌∙◌}
-use mathlib.Core.Bool.{true, false}
+use mathlib.Core.Bool.{true}
 use Rattle.memory.specs.Reading.{state_of}
 use Rattle.visits.specs.Order.{falls_order}
 use Rattle.visits.proofs.OrderedState.{position_here}
@@ -10,8 +10,3 @@ pub returns-then-falls : goal.returns-then-falls
 returns-then-falls c =
     let test : falls_order (state_of c.args.state.now) c.args.slot ≡ true = sym c.falls.ensures ∙ c.if-falls.true in
     rw (test, c.turns.ensures, c.load_position.ensures ∙ position_here c.requires.0)
-
-pub returns : goal.returns
-returns c =
-    let test : falls_order (state_of c.args.state.now) c.args.slot ≡ false = sym c.falls.ensures ∙ c.if-falls.false in
-    rw test
