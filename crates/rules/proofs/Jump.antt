@@ -4,11 +4,12 @@ use mathlib.Core.Path.{◌≡◌, refl, sym, ap, ap₂, ◌∙◌, subst}
 use mathlib.Core.Bool.{Bool, true, false, cond, true≢false}
 use mathlib.Core.List.{List, [], ◌∷◌}
 use mathlib.Core.Logic.{◌⊎◌, inl, inr}
-use mathlib.Core.Option.{Option, none, some}
+use mathlib.Core.Option.{Option, none}
 use native.Mathlib.Decide.{dec_lt}
 use native.Mathlib.Omega.{arith}
 use lib.Pow.{pow_pos, pow-lt, pow_mono}
 use borrow.Author.Tests.{eq-eqb}
+use Rattle.std.specs.Prelude.{Option as CodeOption, Some, None}
 use Rattle.bits.specs.Bit.{bit}
 use Rattle.bits.specs.Order.{order}
 use Rattle.lists.specs.Tests.{is_empty}
@@ -152,13 +153,13 @@ module _ (s : State) (S : Sound s) (v : s.scan.visit ≡ none) (l : s.scan.to_vi
       go (suc u) q = omega arith
 
   -- edition 2
-  holding-jumps : held s ≡ true → (o : Option ℕ) → Found s.order (union s) s.scan.position o → scanning (2 ^ s.order - 1) 0 s ≡ jumped o s
-  holding-jumps g (some t) (a, b, c, d) =
+  holding-jumps : held s ≡ true → (o : CodeOption ℕ) → Found s.order (union s) s.scan.position o → scanning (2 ^ s.order - 1) 0 s ≡ jumped o s
+  holding-jumps g (Some t) (a, b, c, d) =
       jump-within (2 ^ s.order - 1) 0 t s S v l e a b (omega arith) (found-filled s t c) (λ q x y. found-empty s q (d q x y))
       ∙ ap (λ (y : ℕ). visiting y (landed s t)) (omega arith)
-  holding-jumps g none d = go s.scan.position refl
+  holding-jumps g None d = go s.scan.position refl
     where
-      go : (p : ℕ) → s.scan.position ≡ p → scanning (2 ^ s.order - 1) 0 s ≡ jumped none s
+      go : (p : ℕ) → s.scan.position ≡ p → scanning (2 ^ s.order - 1) 0 s ≡ jumped None s
       go zero z =
           let m : 1 ≤ rows_order s = rows-order-least S e in
           let least : 1 ≤ s.order = order_least S e in
@@ -190,8 +191,8 @@ module _ (s : State) (S : Sound s) (v : s.scan.visit ≡ none) (l : s.scan.to_vi
         | inr z ↦ inl (odd-filled g (suc s.scan.position) z)
       ]
 
-  falling-jumps : held s ≡ false → (o : Option ℕ) → Found s.order (union s) s.scan.position o → scanning 2 0 s ≡ jumped o s
-  falling-jumps g (some t) (a, b, c, d) =
+  falling-jumps : held s ≡ false → (o : CodeOption ℕ) → Found s.order (union s) s.scan.position o → scanning 2 0 s ≡ jumped o s
+  falling-jumps g (Some t) (a, b, c, d) =
       jump-within 2 0 t s S v l e a b (near (odd_of_two g (omega arith))) (found-filled s t c) (λ q x y. found-empty s q (d q x y))
       ∙ ap (λ (y : ℕ). visiting y (landed s t)) (omega arith)
     where
@@ -206,7 +207,7 @@ module _ (s : State) (S : Sound s) (v : s.scan.visit ≡ none) (l : s.scan.to_vi
           ⊎ ((suc (suc s.scan.position) < 2 ^ s.order) × (is_empty (found_at s (suc (suc s.scan.position))) ≡ false)) → t ≤ s.scan.position + 2
       near (inl f) = let y = no_later (suc s.scan.position) (omega arith) f in omega arith
       near (inr (h, f)) = let y = no_later (suc (suc s.scan.position)) (omega arith) f in omega arith
-  falling-jumps g none d =
+  falling-jumps g None d =
       elim (dec_lt (suc s.scan.position) (2 ^ s.order)) [
         | yes h ↦ absurd (never (odd_of_two g h) h)
         | no h ↦

@@ -1,7 +1,7 @@
 -- The scan in one jump, for the engine and in both editions: from the union of the rows' weights, at most two positions are looked at before the round's
 -- end. (proofs/Jump shows that it is the scan of specs/Next, the terms taken included.)
-use Rattle.std.specs.Prelude.{ℕ, ◌-◌, ◌^◌, List, [], ◌∷◌}
-use Rattle.std.proofs.Math.Option.{Option, none, some}
+use Rattle.std.specs.Prelude.{ℕ, ◌-◌, ◌^◌, List, [], ◌∷◌, Option as CodeOption, Some, None}
+use Rattle.std.proofs.Math.Option.{Option, none}
 use Rattle.std.specs.Int.Bits.{bit_or}
 use Rattle.spread.specs.Visits.{column_at}
 use Rattle.spread.specs.Jump.{jump}
@@ -25,9 +25,9 @@ abbrev pub visiting : ℕ → State → Option Chosen
 visiting n s = start_first s.scan.to_visit n s none
 
 -- a position of this round, or position 1 of the next (in edition 1 the order worked out afresh is the order)
-abbrev pub jumped : Option ℕ → State → Option Chosen
-jumped (some t) s = visiting (t - s.scan.position) (landed s t)
-jumped none s = visiting (2 ^ s.order - s.scan.position) (landed (round_ended s) 1)
+abbrev pub jumped : CodeOption ℕ → State → Option Chosen
+jumped (Some t) s = visiting (t - s.scan.position) (landed s t)
+jumped None s = visiting (2 ^ s.order - s.scan.position) (landed (round_ended s) 1)
 
 unfoldable pub jumping : State → Option Chosen
 jumping s = jumped (jump s.order (union_of (weights s.channels) s.rows) s.scan.position) s

@@ -4,7 +4,7 @@ use Prim.Native.Nat.{ℕ, zero, suc, ◌+◌, ◌-◌, ◌*◌, ◌/◌, ◌%◌
 use mathlib.Core.Path.{◌≡◌, refl, sym, ap, ◌∙◌, subst}
 use mathlib.Core.Bool.{Bool, true, false, cond}
 use mathlib.Core.Logic.{inl, inr}
-use mathlib.Core.Option.{Option, none, some}
+use Rattle.std.specs.Prelude.{Option, Some, None}
 use native.Mathlib.Nat.{pow-suc, mul_comm, mod-lt, div-add-mod, div-eq_of_lt-le, div-mul-le_self, lt-div-mul-add, mul-div_cancel, mul-mod_left, mul-le-mul_right, lt_of_mul-lt-mul_right}
 use native.Mathlib.Decide.{dec_lt}
 use native.Mathlib.Omega.{arith}
@@ -19,12 +19,12 @@ use Rattle.bits.proofs.OrderLaws.{order-pos, order-top, order-above}
 use Rattle.bits.proofs.TrailingLaws.{trailing_odd, trailing_lt, trailing_mod, trailing_div}
 use Rattle.spread.specs.Sequence.{term}
 use Rattle.spread.specs.Visits.{column_at}
-use Rattle.spread.specs.Jump.{filled_at, searched, multiple, jump, Found, landing}
+use Rattle.spread.specs.Jump.{filled_at, searched, multiple, jump, Found}
 
 -- ---- the search
 
 pub search-found : (f k u p t : ℕ) → p < t → t < 2 ^ k → t ≤ p + f → bit (column_at k t) u ≡ 1
-    → ((q : ℕ) → p < q → q < t → bit (column_at k q) u ≡ 0) → searched f k u p ≡ some t
+    → ((q : ℕ) → p < q → q < t → bit (column_at k q) u ≡ 0) → searched f k u p ≡ Some t
 unfolding searched
 search-found zero k u p t l h n e z = absurd (omega arith)
 search-found (suc f) k u p t l h n e z =
@@ -37,7 +37,7 @@ search-found (suc f) k u p t l h n e z =
           rw (lt-ltb (suc p) (2 ^ k) (omega arith), q, e) refl
     ]
 
-pub search-none : (f k u p : ℕ) → ((q : ℕ) → p < q → q < 2 ^ k → bit (column_at k q) u ≡ 0) → searched f k u p ≡ none
+pub search-none : (f k u p : ℕ) → ((q : ℕ) → p < q → q < 2 ^ k → bit (column_at k q) u ≡ 0) → searched f k u p ≡ None
 unfolding searched
 search-none zero k u p z = refl
 search-none (suc f) k u p z =
@@ -111,7 +111,7 @@ module _ (k u p : ℕ) (h : 0 < u) (o : order u ≤ k) where
   past m q l n = column-empty k u q o (between (2 ^ (k - order u)) m q l n)
 
   -- the second candidate, where the first finds no row
-  second : (m : ℕ) → m ≡ p / d + 1 → m * d < 2 ^ k → bit (column_at k (m * d)) u ≡ 0 → searched (2 ^ k) k u p ≡ some (m * d + d)
+  second : (m : ℕ) → m ≡ p / d + 1 → m * d < 2 ^ k → bit (column_at k (m * d)) u ≡ 0 → searched (2 ^ k) k u p ≡ Some (m * d + d)
   unfolding d
   second m e l z =
       let D = 2 ^ (k - order u) in
@@ -144,7 +144,7 @@ module _ (k u p : ℕ) (h : 0 < u) (o : order u ≤ k) where
       a = multiple (k - order u) p
 
       go : (b : Bool) → ltb a (2 ^ k) ≡ b → (c : Bool) → filled_at k u a ≡ c
-          → searched (2 ^ k) k u p ≡ cond b (some (cond c a (a + 2 ^ (k - order u)))) none
+          → searched (2 ^ k) k u p ≡ cond b (Some (cond c a (a + 2 ^ (k - order u)))) None
       go true l true e = search-found (2 ^ k) k u p a (multiple-after (k - order u) p) (ltb-true a (2 ^ k) l) (let x = ltb-true a (2 ^ k) l in omega arith) (eqb-true _ _ e) up_to
       go true l false e =
           second (p / 2 ^ (k - order u) + 1) refl (ltb-true a (2 ^ k) l)
@@ -154,8 +154,8 @@ module _ (k u p : ℕ) (h : 0 < u) (o : order u ≤ k) where
 -- ---- what it means
 
 found-on : (k u p : ℕ) (o : Option ℕ) → bit (column_at k (suc p)) u ≡ 0 → Found k u (suc p) o → Found k u p o
-found-on k u p none z h = λ q a b. elim (dec_lt (suc p) q) [ yes m ↦ h q m b | no m ↦ let e : q ≡ suc p = omega arith in rw e z ]
-found-on k u p (some t) z h = (
+found-on k u p None z h = λ q a b. elim (dec_lt (suc p) q) [ yes m ↦ h q m b | no m ↦ let e : q ≡ suc p = omega arith in rw e z ]
+found-on k u p (Some t) z h = (
   (let l = h.0 in omega arith),
   h.1,
   h.2,
@@ -168,7 +168,7 @@ search-means zero k u p l = λ q a b. absurd (omega arith)
 search-means (suc f) k u p l = go (ltb (suc p) (2 ^ k)) refl (filled_at k u (suc p)) refl (search-means f k u (suc p) (omega arith))
   where
     go : (b : Bool) → ltb (suc p) (2 ^ k) ≡ b → (c : Bool) → filled_at k u (suc p) ≡ c → Found k u (suc p) (searched f k u (suc p))
-        → Found k u p (cond b (cond c (some (suc p)) (searched f k u (suc p))) none)
+        → Found k u p (cond b (cond c (Some (suc p)) (searched f k u (suc p))) None)
     go true m true e h = ((omega arith), ltb-true (suc p) (2 ^ k) m, eqb-true _ _ e, λ q a b. absurd (omega arith))
     go true m false e h =
         found-on k u p (searched f k u (suc p)) (elim (bit-cases (column_at k (suc p)) u) [ inl z ↦ z | inr z ↦ absurd (eqb-false _ _ e z) ]) h
@@ -177,18 +177,3 @@ search-means (suc f) k u p l = go (ltb (suc p) (2 ^ k)) refl (filled_at k u (suc
 -- the jump finds the first one, and none only where there is none
 pub jump-means : (k u p : ℕ) → 0 < u → order u ≤ k → Found k u p (jump k u p)
 jump-means k u p h o = subst (Found k u p) (jump-law k u p h o) (search-means (2 ^ k) k u p (omega arith))
-
--- in one number: any but 0 is that position, and 0 says that there is none, as a position found comes after another and so is not 0
-pub landing-found : (k u p : ℕ) → 0 < u → order u ≤ k → 0 < landing (jump k u p) → Found k u p (some (landing (jump k u p)))
-landing-found k u p h o = go (jump k u p) (jump-means k u p h o)
-  where
-    go : (j : Option ℕ) → Found k u p j → 0 < landing j → Found k u p (some (landing j))
-    go none f l = absurd (omega arith)
-    go (some t) f l = f
-
-pub landing-none : (k u p : ℕ) → 0 < u → order u ≤ k → landing (jump k u p) ≡ 0 → Found k u p none
-landing-none k u p h o = go (jump k u p) (jump-means k u p h o)
-  where
-    go : (j : Option ℕ) → Found k u p j → landing j ≡ 0 → Found k u p none
-    go none f e = f
-    go (some t) f e = absurd (let l = f.0 in omega arith)

@@ -6,7 +6,7 @@ ghost use Rattle.std.specs.Prelude.{◌≡◌, ◌^◌, ◌≤◌, ◌<◌};
 ghost use Rattle.bits.specs.Order.{order as bits_of};
 ghost use Rattle.spread.specs.Limits.{columns};
 ghost use Rattle.spread.specs.Visits.{column_at};
-ghost use Rattle.spread.specs.Jump.{jump, landing};
+ghost use Rattle.spread.specs.Jump.{jump};
 
 use bits::{order_of, trailing_of};
 
@@ -18,19 +18,19 @@ pub fn column_at(order: u32, position: u32) -> u32
     order - (trailing_of(position) + 1)
 }
 
-// The first position behind `position` whose column has a row, from the union of the rows' weights, and 0 where this round has none left.
-pub fn next_filled(order: u32, union: u32, position: u32) -> u32
+// The first position behind `position` whose column has a row, from the union of the rows' weights, or none where this round has none left.
+pub fn next_filled(order: u32, union: u32, position: u32) -> Option<u32>
     requires { (0 < union) × (bits_of union ≤ order) × (order ≤ columns) × (position < 2 ^ order) }
-    ensures { result ≡ landing (jump order union position) }
+    ensures { result ≡ jump order union position }
 {
     let shift = order - order_of(union);
     let first = ((position >> shift) + 1) << shift;
-    if (1u32 << order) <= first {
-        return 0;
+    if 1 << order <= first {
+        return None;
     }
     let column = column_at(order, first);
     if (union >> column) % 2 == 1 {
-        return first;
+        return Some(first);
     }
-    first + (1u32 << shift)
+    Some(first + (1 << shift))
 }

@@ -1,5 +1,5 @@
 -- The record sent, and the order still to be worked out: what Next has done then; and the notes of a memory after a send.
-use Rattle.std.specs.Prelude.{◌≡◌, ℕ, ◌-◌, ◌<◌, ◌≤◌, List}
+use Rattle.std.specs.Prelude.{◌≡◌, ℕ, ◌-◌, ◌<◌, ◌≤◌, List, Ok}
 use Rattle.rules.specs.Numbers.{slots}
 use Rattle.rules.specs.Next.{next_call}
 use Rattle.memory.specs.Layout.{bytes_of}
@@ -11,21 +11,17 @@ use Rattle.uplink.specs.Told.{next_told, leaving}
 use Rattle.memory.specs.Memory.{base}
 use Rattle.memory.specs.Reading.{bytes_at}
 use Rattle.fullest.specs.Noted.{NotedBy, Noted, now_in}
-use Rattle.uplink.specs.declared.NextAnswer.{NextAnswer}
-use Rattle.uplink.specs.declared.NextAnswer.TheVariants as next
+use Rattle.uplink.specs.declared.Sent.{Sent}
 
--- from the memory b with the choice x, r is Next's answer, and b' with its order worked out is the memory that Next leaves
-pub record Sends (b : List ℕ) (x : Chosen) (r : NextAnswer) (b' : List ℕ) : Type 0 where
+-- from the memory b with the choice x, a is what Next gives, and b' with its order worked out is the memory that Next leaves
+pub record Sends (b : List ℕ) (x : Chosen) (a : Sent) (b' : List ℕ) : Type 0 where
   pub slot_lt : x.slot < slots
   pub unordered : Unordered b'
-  pub same : leaving (next_told r) (bytes_of (ordered x.slot (state_of b'))) ≡ replied_base b (next_call (state_of b))
+  pub same : leaving (next_told (Ok a)) (bytes_of (ordered x.slot (state_of b'))) ≡ replied_base b (next_call (state_of b))
 
 -- what a send may take from the notes; and that it is taken, of the bytes of its slot and of nothing else
-abbrev pub SentFits : List ℕ → NextAnswer → Type 0
-SentFits b (next.Sent slot ticket length reference serial started terms) = Noted b × (slot < slots) × (length ≤ bytes_at b slot)
-SentFits b (next.Refused r) = Unit {0}
+abbrev pub SentFits : List ℕ → Sent → Type 0
+SentFits b a = Noted b × (a.slot < slots) × (a.length ≤ bytes_at b a.slot)
 
-abbrev pub SentNoted : NextAnswer → List ℕ → List ℕ → Type 0
-SentNoted (next.Sent slot ticket length reference serial started terms) b b' =
-    ((f : ℕ → ℕ) → NotedBy f b → NotedBy (now_in f slot (f slot - length)) b') × (base b' ≡ base b)
-SentNoted (next.Refused r) b b' = b' ≡ b
+abbrev pub SentNoted : Sent → List ℕ → List ℕ → Type 0
+SentNoted a b b' = ((f : ℕ → ℕ) → NotedBy f b → NotedBy (now_in f a.slot (f a.slot - a.length)) b') × (base b' ≡ base b)

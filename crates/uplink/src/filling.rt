@@ -7,46 +7,35 @@ ghost use Rattle.memory.specs.Memory.{replied, on};
 ghost use Rattle.uplink.specs.Holds.{TakesCalls};
 ghost use Rattle.uplink.specs.Told.{entry_told, nobody, fullest_told, ZerosBehind, leaving};
 
-use super::{FullestAnswer, Place};
+use super::admitted::admitted;
+use super::{Listed, Place};
 use answers::Refusal;
 use fullest::keys::wide;
 use fullest::noting::bytes_of;
 use memory::layout::{FULLEST, LISTED_COUNT};
-use memory::point::is_parked;
-use soundness::check;
 
 // Fullest answers the list of the five fullest: most bytes first, the lower slot first on a tie, channels with none left out.
-pub fn fullest(state: &[u8]) -> FullestAnswer
+pub fn fullest(state: &[u8]) -> Result<Listed, Refusal>
     ensures { (leaving (fullest_told result) state.now ≡ on fullest_call state.now) × ZerosBehind result }
 {
-    if !check(state) {
-        return FullestAnswer::Refused(Refusal::Unsound);
-    }
-    if is_parked(state) {
-        return FullestAnswer::Refused(Refusal::Parked);
-    }
+    admitted(state)?;
     fullest_in(state)
 }
 
 // Fullest on a memory that takes calls: the list stands in its notes, and each one's bytes too.
-fn fullest_in(state: &[u8]) -> FullestAnswer
+fn fullest_in(state: &[u8]) -> Result<Listed, Refusal>
     requires { TakesCalls state.now }
     ensures { (leaving (fullest_told result) state.now ≡ replied state.now (fullest_call (state_of state.now))) × ZerosBehind result }
 {
     let count = wide(state[LISTED_COUNT]) as u32;
-    let first = place_at(state, 0);
-    let second = place_at(state, 1);
-    let third = place_at(state, 2);
-    let fourth = place_at(state, 3);
-    let fifth = place_at(state, 4);
-    FullestAnswer::Listed {
-        count,
-        first,
-        second,
-        third,
-        fourth,
-        fifth,
-    }
+    let places = [
+        place_at(state, 0),
+        place_at(state, 1),
+        place_at(state, 2),
+        place_at(state, 3),
+        place_at(state, 4),
+    ];
+    Ok(Listed { count, places })
 }
 
 // The channel at place k of the list, and zeros behind the last.

@@ -11,83 +11,65 @@ ghost use Rattle.uplink.specs.NextSteps.{Sends, SentFits, SentNoted};
 ghost use Rattle.visits.specs.Choice.{Chose};
 ghost use Rattle.visits.specs.Settle.{paid_head};
 
-use super::NextAnswer;
+use super::Sent;
+use super::admitted::admitted;
 use answers::Refusal;
 use fullest::noting::shrink;
 use memory::heads::{Head, load_head, waiting_of};
 use memory::layout::BASE;
-use memory::point::{is_parked, load_scan};
+use memory::point::load_scan;
 use memory::records::{first_of, load_record};
 use memory::rows::row_count;
 use rules::{GRANTED, cost_of};
-use soundness::check;
-use std::num::wrapping_sub_u16;
 use visits::choose::{Chosen, choose};
 use visits::order::order_again;
 use visits::settle::settle;
 
 // Next sends one record: an open visit goes on, or the first slot still to visit starts one, or the first of the next column that has a row.
-pub fn next(state: &mut [u8]) -> NextAnswer
+pub fn next(state: &mut [u8]) -> Result<Sent, Refusal>
     ensures { leaving (next_told result) state.new ≡ on next_call state.old }
 {
-    if !check(state) {
-        return NextAnswer::Refused(Refusal::Unsound);
-    }
-    if is_parked(state) {
-        return NextAnswer::Refused(Refusal::Parked);
-    }
+    admitted(state)?;
     next_noted(state)
 }
 
 // Next on a memory that takes calls: on its base, and then the bytes of the slot that sent go down.
-fn next_noted(state: &mut [u8]) -> NextAnswer
+fn next_noted(state: &mut [u8]) -> Result<Sent, Refusal>
     requires { TakesCalls state.old }
     ensures { leaving (next_told result) state.new ≡ replied state.old (next_call (state_of state.old)) }
 {
     let end = BASE;
-    let answer = next_in(&mut state[..end]);
-    note_sent(state, answer);
-    answer
+    let sent = next_in(&mut state[..end])?;
+    note_sent(state, sent);
+    Ok(sent)
 }
 
-// The notes after a send: the record's bytes are gone from its slot. A refusal leaves them.
-pub fn note_sent(state: &mut [u8], answer: NextAnswer)
-    requires { SentFits state.old answer }
-    ensures { SentNoted answer state.old state.new }
+// The notes after a send: the record's bytes are gone from its slot.
+pub fn note_sent(state: &mut [u8], sent: Sent)
+    requires { SentFits state.old sent }
+    ensures { SentNoted sent state.old state.new }
 {
-    let NextAnswer::Sent {
-        slot,
-        ticket: _,
-        length,
-        reference: _,
-        serial: _,
-        started: _,
-        terms: _,
-    } = answer
-    else {
-        return;
-    };
-    shrink(state, slot as usize, length as u16);
+    shrink(state, sent.slot as usize, sent.length as u16);
 }
 
 // Next on the base of a memory that takes calls.
-fn next_in(state: &mut [u8]) -> NextAnswer
+fn next_in(state: &mut [u8]) -> Result<Sent, Refusal>
     requires { TakesSteps state.old }
     ensures { leaving (next_told result) state.new ≡ replied_base state.old (next_call (state_of state.old)) }
 {
     if row_count(state) == 0 {
-        return NextAnswer::Refused(Refusal::NoneWaits);
+        return Err(Refusal::NoneWaits);
     }
     let scan = load_scan(state);
     let chosen = choose(state, scan);
-    let answer = send(state, chosen);
+    let sent = send(state, chosen);
     order_again(state, chosen.slot);
-    answer
+    Ok(sent)
 }
 
 // "The head record is sent and its length taken from the deficit": its cost, by 02 §1. Its place is worked out once: no step of a send moves it. The order is
 // then still to be worked out.
-pub fn send(state: &mut [u8], chosen: Chosen) -> NextAnswer
+pub fn send(state: &mut [u8], chosen: Chosen) -> Sent
     requires { Chose state.old chosen × ((state_of state.old).parked ≡ false) }
     ensures { Sends state.old chosen result state.new }
 {
@@ -99,7 +81,7 @@ pub fn send(state: &mut [u8], chosen: Chosen) -> NextAnswer
     let cost = cost_of(first.length);
     let paid = paying(head, chosen.started, cost);
     settle(state, slot, place, paid, chosen.order, chosen.scan);
-    NextAnswer::Sent {
+    Sent {
         slot: slot as u32,
         ticket: head.ticket,
         length: first.length as u32,
@@ -116,7 +98,7 @@ fn head_serial(state: &[u8], slot: usize, serial: u16) -> u16
     ensures { result ≡ (serial + serials - waiting_at state.now slot) % serials }
 {
     let waiting = waiting_of(state, slot);
-    wrapping_sub_u16(serial, waiting as u16)
+    serial.wrapping_sub(waiting as u16)
 }
 
 // The deficit, with the grant where the visit starts, pays what the record costs.
@@ -126,10 +108,7 @@ fn paying(head: Head, started: u32, cost: u32) -> Head
 {
     let funded = head.deficit as u32 + started * GRANTED;
     Head {
-        kind: head.kind,
-        ticket: head.ticket,
-        weight: head.weight,
         deficit: (funded - cost) as u16,
-        serial: head.serial,
+        ..head
     }
 }

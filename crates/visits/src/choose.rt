@@ -55,8 +55,7 @@ fn jumped(state: &[u8], order: u8, scan: Scan) -> Chosen
     ensures { some result ≡ map in_chosen (chosen_of (state_of state.now)) }
 {
     let union = union_of_rows(state);
-    let next = next_filled(order as u32, union, scan.position as u32);
-    if next != 0 {
+    if let Some(next) = next_filled(order as u32, union, scan.position as u32) {
         let found = landed(state, order as u32, next as Position, scan);
         return first_visit(state, next - scan.position as u32, order, found);
     }

@@ -12,6 +12,5 @@ bounds-state-4096 c =
 pub returns : goal.returns
 returns c =
     five-told c.args.state.now c.requires c.wide-count.result
-    (entry_told c.place_at-first.result) (entry_told c.place_at-second.result) (entry_told c.place_at-third.result) (entry_told c.place_at-fourth.result) (entry_told c.place_at-fifth.result)
-    c.wide-count.ensures.0 c.place_at-first.ensures c.place_at-second.ensures c.place_at-third.ensures c.place_at-fourth.ensures
-    c.place_at-fifth.ensures
+    (entry_told c.place_at.result) (entry_told c.place_at-2.result) (entry_told c.place_at-3.result) (entry_told c.place_at-4.result) (entry_told c.place_at-5.result)
+    c.wide-count.ensures.0 c.place_at.ensures c.place_at-2.ensures c.place_at-3.ensures c.place_at-4.ensures c.place_at-5.ensures

@@ -1,5 +1,5 @@
 -- Each test of the lookup is a part of the first two checks, asked of the numbers that stand in the slot.
-use Rattle.std.proofs.Common.{sym, ◌∙◌, arith, le-leb}
+use Rattle.std.proofs.Common.{sym, refl, ◌∙◌, inl, inr, arith, le-leb}
 use borrow.Author.Tests.{lt-leb}
 use Rattle.rules.specs.Numbers.{slots}
 use Rattle.rules.specs.State.{at}
@@ -10,7 +10,7 @@ use Rattle.uplink.proofs.Named.{kind-is, ticket_is, head-held, absent-free, abse
 use Rattle.uplink.proofs.lookup.lookup.Goals as goal
 
 pub returns-then-slot : goal.returns-then-slot
-returns-then-slot c = le-leb slots _ c.if-slot.true
+returns-then-slot c = inl (le-leb slots _ c.if-slot.true, refl)
 
 pub load_head-head-requires : goal.load_head-head-requires
 load_head-head-requires c = (holds-size (sound-holds _ c.requires), omega arith)
@@ -21,7 +21,7 @@ returns-then-head-eq0 c =
     let a = c.args in
     let d = at (state_of a.state.now).channels a.slot in
     let h = loaded in
-    (lt-leb slots _ c.if-slot.false, absent-free d a.ticket (sym (kind-is d h) ∙ c.if-head-eq0.true))
+    inr (lt-leb slots _ c.if-slot.false, absent-free d a.ticket (sym (kind-is d h) ∙ c.if-head-eq0.true), refl)
 
 pub returns-then-head-ticket : goal.returns-then-head-ticket
 returns-then-head-ticket c =
@@ -29,7 +29,7 @@ returns-then-head-ticket c =
     let a = c.args in
     let d = at (state_of a.state.now).channels a.slot in
     let h = loaded in
-    (lt-leb slots _ c.if-slot.false, absent-other d a.ticket (λ e. c.if-head-ticket.true (ticket_is d h ∙ sym e)))
+    inr (lt-leb slots _ c.if-slot.false, absent-other d a.ticket (λ e. c.if-head-ticket.true (ticket_is d h ∙ sym e)), refl)
 
 pub returns : goal.returns
 returns c =

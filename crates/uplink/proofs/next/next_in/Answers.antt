@@ -19,14 +19,14 @@ load_scan-scan-requires c = (base-sound _ c.requires.0).size
 pub choose-chosen-requires : goal.choose-chosen-requires
 choose-chosen-requires c = chooses _ c.requires.0 c.row_count.ensures.0 c.if-row_count-eq0.false c.load_scan-scan.ensures
 
-pub send-answer-requires : goal.send-answer-requires
-send-answer-requires c =
+pub send-sent-requires : goal.send-sent-requires
+send-sent-requires c =
     (chose _ c.requires.0 c.row_count.ensures.0 c.if-row_count-eq0.false c.choose-chosen.ensures, c.requires.1)
 
 pub order_again-requires : goal.order_again-requires
 order_again-requires c =
-    let z = c.send-answer.ensures in
+    let z = c.send-sent.ensures in
     (z.unordered, z.slot_lt)
 
 pub returns : goal.returns
-returns c = sent-ordered c.send-answer.ensures c.order_again.ensures
+returns c = sent-ordered c.send-sent.ensures c.order_again.ensures

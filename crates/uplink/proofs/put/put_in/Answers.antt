@@ -1,7 +1,6 @@
-use borrow.Enum.Refused.{opened}
-use Rattle.uplink.proofs.put.put_in.Goals as goal
 -- Each test is a check of the rules; the record is taken, and the slot joins the rows where none waited.
-use Rattle.std.proofs.Common.{◌≡◌, ◌≤◌, false, [], length, sym, ◌∙◌, subst, lt_of_le_of_lt, arith, leb-false}
+use Rattle.std.proofs.Common.{◌≡◌, ◌≤◌, false, [], length, sym, ◌∙◌, lt_of_le_of_lt, arith, leb-false}
+use Rattle.std.proofs.lemmas.Result.{err_from_is_err_and}
 use Rattle.spread.specs.Limits.{outside}
 use Rattle.spread.proofs.Limits.{between}
 use Rattle.rules.specs.Numbers.{slots, longest}
@@ -10,9 +9,8 @@ use Rattle.rules.specs.Calls.{no_cell}
 use Rattle.memory.specs.Reading.{state_of}
 use Rattle.memory.specs.Fits.{RecordFits, Fits}
 use Rattle.memory.proofs.RowEdits.{fits-joined}
-use Rattle.uplink.specs.Found.{FoundIn}
 use Rattle.uplink.specs.PutSteps.{record_taken}
-use Rattle.uplink.specs.declared.lookup.Found.TheVariants as found
+use Rattle.uplink.proofs.put.put_in.Goals as goal
 use Rattle.uplink.proofs.Lending.{sound_of, sound-holds, holds-size, held-state, holds}
 use Rattle.uplink.proofs.Closing.{none-waits}
 use Rattle.uplink.proofs.Putting.{
@@ -33,44 +31,39 @@ use Rattle.uplink.proofs.Putting.{
   puts-more,
 }
 
-pub returns-in_default : goal.returns-in_default
-returns-in_default c =
+pub returns-in_err-head : goal.returns-in_err-head
+returns-in_err-head c =
     let a = c.args in
-    puts-refused
-    (put-unnamed a.state.now a.slot a.ticket a.length a.reference c.requires.1 c.lookup-found.result c.refusal_of.result
-    c.lookup-found.ensures (opened c.in_default.in_default-own.keys2) c.refusal_of.ensures)
+    let p = err_from_is_err_and c.from_residual.result c.from_residual.ensures.1 in
+    rw (p.1, p.2) (puts-refused (put-unnamed a.state.now a.slot a.ticket a.length a.reference c.requires.1 _ c.in_err-head.ensures))
 
 pub returns-then-head-eq2 : goal.returns-then-head-eq2
 returns-then-head-eq2 c =
-    let channel : FoundIn (state_of c.args.state.now) c.args.slot c.args.ticket (found.Channel c.in-Channel.head) = let a = c.args in
-    subst (FoundIn (state_of a.state.now) a.slot a.ticket) c.in-Channel.is c.lookup-found.ensures in
+    let channel = c.in_ok-head.ensures in
     let a = c.args in
     puts-refused
-    (put-closing a.state.now a.slot a.ticket a.length a.reference c.requires.1 c.in-Channel.head channel c.if-head-eq2.true)
+    (put-closing a.state.now a.slot a.ticket a.length a.reference c.requires.1 c.in_ok-head.head channel c.if-head-eq2.true)
 
 pub returns-then-bad_length : goal.returns-then-bad_length
 returns-then-bad_length c =
-    let channel : FoundIn (state_of c.args.state.now) c.args.slot c.args.ticket (found.Channel c.in-Channel.head) = let a = c.args in
-    subst (FoundIn (state_of a.state.now) a.slot a.ticket) c.in-Channel.is c.lookup-found.ensures in
+    let channel = c.in_ok-head.ensures in
     let a = c.args in
     puts-refused
-    (put-bad-length a.state.now a.slot a.ticket a.length a.reference c.requires.1 c.in-Channel.head channel
+    (put-bad-length a.state.now a.slot a.ticket a.length a.reference c.requires.1 c.in_ok-head.head channel
     c.if-head-eq2.false (sym c.bad_length.ensures ∙ c.if-bad_length.true))
 
 pub waiting_of-waiting-requires : goal.waiting_of-waiting-requires
 waiting_of-waiting-requires c =
-    let channel : FoundIn (state_of c.args.state.now) c.args.slot c.args.ticket (found.Channel c.in-Channel.head) = let a = c.args in
-    subst (FoundIn (state_of a.state.now) a.slot a.ticket) c.in-Channel.is c.lookup-found.ensures in
+    let channel = c.in_ok-head.ensures in
     (holds-size (sound-holds _ c.requires.0), leb-false slots _ channel.0)
 
 pub returns-then-waiting-ge-ROOM : goal.returns-then-waiting-ge-ROOM
 returns-then-waiting-ge-ROOM c =
-    let channel : FoundIn (state_of c.args.state.now) c.args.slot c.args.ticket (found.Channel c.in-Channel.head) = let a = c.args in
-    subst (FoundIn (state_of a.state.now) a.slot a.ticket) c.in-Channel.is c.lookup-found.ensures in
+    let channel = c.in_ok-head.ensures in
     let good_length : outside 1 longest c.args.length ≡ false = sym c.bad_length.ensures ∙ c.if-bad_length.false in
     let a = c.args in
     puts-refused
-    (put_full a.state.now a.slot a.ticket a.length a.reference c.requires.1 c.in-Channel.head channel
+    (put_full a.state.now a.slot a.ticket a.length a.reference c.requires.1 c.in_ok-head.head channel
     c.if-head-eq2.false (sound-holds _ c.requires.0) good_length c.waiting_of-waiting.result c.waiting_of-waiting.ensures.0
     c.if-waiting-ge-ROOM.true)
 
@@ -79,15 +72,14 @@ no_cell-requires c = holds-size (sound-holds _ c.requires.0)
 
 pub returns-then-no_cell : goal.returns-then-no_cell
 returns-then-no_cell c =
-    let channel : FoundIn (state_of c.args.state.now) c.args.slot c.args.ticket (found.Channel c.in-Channel.head) = let a = c.args in
-    subst (FoundIn (state_of a.state.now) a.slot a.ticket) c.in-Channel.is c.lookup-found.ensures in
+    let channel = c.in_ok-head.ensures in
     let good_length : outside 1 longest c.args.length ≡ false = sym c.bad_length.ensures ∙ c.if-bad_length.false in
     let a = c.args in
     puts-refused
-    (put_no_cell a.state.now a.slot a.ticket a.length a.reference c.requires.1 c.in-Channel.head channel
+    (put_no_cell a.state.now a.slot a.ticket a.length a.reference c.requires.1 c.in_ok-head.head channel
     c.if-head-eq2.false (sound-holds _ c.requires.0) good_length c.waiting_of-waiting.result c.waiting_of-waiting.ensures.0
     c.if-waiting-ge-ROOM.false
-    (cell_in a.state.now a.slot a.ticket a.length a.reference c.requires.1 c.in-Channel.head channel
+    (cell_in a.state.now a.slot a.ticket a.length a.reference c.requires.1 c.in_ok-head.head channel
     c.if-head-eq2.false (sound-holds _ c.requires.0) good_length c.waiting_of-waiting.result c.waiting_of-waiting.ensures.0
     c.if-waiting-ge-ROOM.false c.no_cell.result c.no_cell.ensures ∙ c.if-no_cell.true))
 
@@ -100,28 +92,26 @@ overflow_cast-length c =
 
 pub take-requires : goal.take-requires
 take-requires c =
-    let channel : FoundIn (state_of c.args.state.now) c.args.slot c.args.ticket (found.Channel c.in-Channel.head) = let a = c.args in
-    subst (FoundIn (state_of a.state.now) a.slot a.ticket) c.in-Channel.is c.lookup-found.ensures in
+    let channel = c.in_ok-head.ensures in
     let good_length : outside 1 longest c.args.length ≡ false = sym c.bad_length.ensures ∙ c.if-bad_length.false in
     let waits : c.waiting_of-waiting.result ≡ length (at (state_of c.args.state.now).channels c.args.slot).waiting = let a = c.args in
-    waits_in a.state.now a.slot a.ticket a.length a.reference c.requires.1 c.in-Channel.head channel
+    waits_in a.state.now a.slot a.ticket a.length a.reference c.requires.1 c.in_ok-head.head channel
     c.if-head-eq2.false (sound-holds _ c.requires.0) good_length c.waiting_of-waiting.result c.waiting_of-waiting.ensures.0 in
     let free : (let a = c.args in no_cell (at (state_of a.state.now).channels a.slot) (shared_use (state_of a.state.now).channels) ≡ false) = let a = c.args in
-    cell_in a.state.now a.slot a.ticket a.length a.reference c.requires.1 c.in-Channel.head channel
+    cell_in a.state.now a.slot a.ticket a.length a.reference c.requires.1 c.in_ok-head.head channel
     c.if-head-eq2.false (sound-holds _ c.requires.0) good_length c.waiting_of-waiting.result c.waiting_of-waiting.ensures.0
     c.if-waiting-ge-ROOM.false c.no_cell.result c.no_cell.ensures ∙ c.if-no_cell.false in
     (sound-holds _ c.requires.0, leb-false slots _ channel.0, rw (← waits) c.if-waiting-ge-ROOM.false, free, channel.2)
 
 pub join_row-requires : goal.join_row-requires
 join_row-requires c =
-    let channel : FoundIn (state_of c.args.state.now) c.args.slot c.args.ticket (found.Channel c.in-Channel.head) = let a = c.args in
-    subst (FoundIn (state_of a.state.now) a.slot a.ticket) c.in-Channel.is c.lookup-found.ensures in
+    let channel = c.in_ok-head.ensures in
     let good_length : outside 1 longest c.args.length ≡ false = sym c.bad_length.ensures ∙ c.if-bad_length.false in
     let waits : c.waiting_of-waiting.result ≡ length (at (state_of c.args.state.now).channels c.args.slot).waiting = let a = c.args in
-    waits_in a.state.now a.slot a.ticket a.length a.reference c.requires.1 c.in-Channel.head channel
+    waits_in a.state.now a.slot a.ticket a.length a.reference c.requires.1 c.in_ok-head.head channel
     c.if-head-eq2.false (sound-holds _ c.requires.0) good_length c.waiting_of-waiting.result c.waiting_of-waiting.ensures.0 in
     let free : (let a = c.args in no_cell (at (state_of a.state.now).channels a.slot) (shared_use (state_of a.state.now).channels) ≡ false) = let a = c.args in
-    cell_in a.state.now a.slot a.ticket a.length a.reference c.requires.1 c.in-Channel.head channel
+    cell_in a.state.now a.slot a.ticket a.length a.reference c.requires.1 c.in_ok-head.head channel
     c.if-head-eq2.false (sound-holds _ c.requires.0) good_length c.waiting_of-waiting.result c.waiting_of-waiting.ensures.0
     c.if-waiting-ge-ROOM.false c.no_cell.result c.no_cell.ensures ∙ c.if-no_cell.false in
     let taken-fits : (let w = c in let a = w.before.before.before.before.before.before.before.before.before.before.before.before.args in Fits (record_taken (state_of a.state.now) a.slot (record { length = a.length; reference = a.reference }))) = let a = c.args in
@@ -138,14 +128,13 @@ join_row-requires c =
 
 pub returns-then-waiting-eq0 : goal.returns-then-waiting-eq0
 returns-then-waiting-eq0 c =
-    let channel : FoundIn (state_of c.args.state.now) c.args.slot c.args.ticket (found.Channel c.in-Channel.head) = let a = c.args in
-    subst (FoundIn (state_of a.state.now) a.slot a.ticket) c.in-Channel.is c.lookup-found.ensures in
+    let channel = c.in_ok-head.ensures in
     let good_length : outside 1 longest c.args.length ≡ false = sym c.bad_length.ensures ∙ c.if-bad_length.false in
     let waits : c.waiting_of-waiting.result ≡ length (at (state_of c.args.state.now).channels c.args.slot).waiting = let a = c.args in
-    waits_in a.state.now a.slot a.ticket a.length a.reference c.requires.1 c.in-Channel.head channel
+    waits_in a.state.now a.slot a.ticket a.length a.reference c.requires.1 c.in_ok-head.head channel
     c.if-head-eq2.false (sound-holds _ c.requires.0) good_length c.waiting_of-waiting.result c.waiting_of-waiting.ensures.0 in
     let free : (let a = c.args in no_cell (at (state_of a.state.now).channels a.slot) (shared_use (state_of a.state.now).channels) ≡ false) = let a = c.args in
-    cell_in a.state.now a.slot a.ticket a.length a.reference c.requires.1 c.in-Channel.head channel
+    cell_in a.state.now a.slot a.ticket a.length a.reference c.requires.1 c.in_ok-head.head channel
     c.if-head-eq2.false (sound-holds _ c.requires.0) good_length c.waiting_of-waiting.result c.waiting_of-waiting.ensures.0
     c.if-waiting-ge-ROOM.false c.no_cell.result c.no_cell.ensures ∙ c.if-no_cell.false in
     let taken-fits : (let w = c in let a = w.before.before.before.before.before.before.before.before.before.before.before.before.args in Fits (record_taken (state_of a.state.now) a.slot (record { length = a.length; reference = a.reference }))) = let a = c.args in
@@ -163,7 +152,7 @@ returns-then-waiting-eq0 c =
     record {
       joined = λ z. joined-here a.slot r low S taken-fits none _ left;
       same =
-          put-first-given a.state.now a.slot a.ticket a.length a.reference c.requires.1 c.in-Channel.head channel
+          put-first-given a.state.now a.slot a.ticket a.length a.reference c.requires.1 c.in_ok-head.head channel
           c.if-head-eq2.false (sound-holds _ c.requires.0) good_length c.waiting_of-waiting.result c.waiting_of-waiting.ensures.0
           c.if-waiting-ge-ROOM.false free c.if-waiting-eq0.true S _
           (held-state _ (fits-joined taken-fits a.slot low (no_row a.slot S none)) left);
@@ -171,15 +160,14 @@ returns-then-waiting-eq0 c =
 
 pub returns : goal.returns
 returns c =
-    let channel : FoundIn (state_of c.args.state.now) c.args.slot c.args.ticket (found.Channel c.in-Channel.head) = let a = c.args in
-    subst (FoundIn (state_of a.state.now) a.slot a.ticket) c.in-Channel.is c.lookup-found.ensures in
+    let channel = c.in_ok-head.ensures in
     let good_length : outside 1 longest c.args.length ≡ false = sym c.bad_length.ensures ∙ c.if-bad_length.false in
     let free : (let a = c.args in no_cell (at (state_of a.state.now).channels a.slot) (shared_use (state_of a.state.now).channels) ≡ false) = let a = c.args in
-    cell_in a.state.now a.slot a.ticket a.length a.reference c.requires.1 c.in-Channel.head channel
+    cell_in a.state.now a.slot a.ticket a.length a.reference c.requires.1 c.in_ok-head.head channel
     c.if-head-eq2.false (sound-holds _ c.requires.0) good_length c.waiting_of-waiting.result c.waiting_of-waiting.ensures.0
     c.if-waiting-ge-ROOM.false c.no_cell.result c.no_cell.ensures ∙ c.if-no_cell.false in
     let a = c.args in
     puts-more c.if-waiting-eq0.false
-    (put-more-given a.state.now a.slot a.ticket a.length a.reference c.requires.1 c.in-Channel.head channel
+    (put-more-given a.state.now a.slot a.ticket a.length a.reference c.requires.1 c.in_ok-head.head channel
     c.if-head-eq2.false (sound-holds _ c.requires.0) good_length c.waiting_of-waiting.result c.waiting_of-waiting.ensures.0
     c.if-waiting-ge-ROOM.false free c.if-waiting-eq0.false _ c.take.ensures)

@@ -1,15 +1,12 @@
 -- The call is the rules' own, once the order has risen where a slot joined the rows.
-use Rattle.uplink.proofs.Putting.{put-left, put-joined, put-risen}
-use mathlib.Core.Path.{ap}
-use mathlib.Core.Bool.{not}
+use Rattle.std.proofs.lemmas.Result.{err_from_is_err_and}
+use Rattle.uplink.proofs.Putting.{put-refused, put-left, put-joined, put-risen}
 use Rattle.uplink.proofs.put.put_on.Goals as goal
 
-pub returns-then-not-joins : goal.returns-then-not-joins
-returns-then-not-joins c = put-left c.put_in-answer.ensures c.joins.ensures (ap not c.if-not-joins.true)
+pub returns-in_err-taken : goal.returns-in_err-taken
+returns-in_err-taken c =
+    let p = err_from_is_err_and c.from_residual.result c.from_residual.ensures.1 in
+    rw (p.1, p.2) (put-refused c.in_err-taken.ensures)
 
 pub rise-requires : goal.rise-requires
-rise-requires c = put-joined c.put_in-answer.ensures c.joins.ensures (ap not c.if-not-joins.false)
-
-pub returns : goal.returns
-returns c =
-    put-risen c.put_in-answer.ensures c.joins.ensures (ap not c.if-not-joins.false) c.rise.ensures
+rise-requires c = put-joined c.in_ok-taken.ensures c.if-taken-eq1.true

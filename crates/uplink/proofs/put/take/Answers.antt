@@ -1,5 +1,5 @@
 -- The record is added to the state that the memory is of, and the head is stored to the state with the record.
-use Rattle.std.proofs.Common.{◌<◌, length, ap, ◌∙◌, arith}
+use Rattle.std.proofs.Common.{◌<◌, length, refl, ap, ◌∙◌, arith}
 use Rattle.rules.specs.State.{Record, at}
 use Rattle.rules.specs.Calls.{adding}
 use Rattle.memory.specs.Edits.{record_added}
@@ -34,5 +34,5 @@ returns c =
     let l : a.slot < length (state_of a.state.now).channels = rw H.fits.size c.requires.1 in
     c.store_head.ensures (record_added here a.slot r) (adding d.deficit r d) (fits-added a.slot r H.fits c.requires.1 fits c.requires.2 c.requires.3)
     (c.add_record.ensures here H.fits H.bytes)
-    (taken-head here a.slot r l c.requires.4 c.wrapping_add_u16-serial.ensures.value) (taken_queue here a.slot r l)
+    (taken-head here a.slot r l c.requires.4 refl) (taken_queue here a.slot r l)
     ∙ ap bytes_of (taken-state here a.slot r l)
