@@ -1,6 +1,6 @@
 -- The marks are the column's rows, of which there is one, so there is a first mark.
 use Prim.Native.Nat.{ℕ}
-use Rattle.std.proofs.Common.{◌≡◌, false, List, [], get_or, sym, ap, ◌∙◌, subst, arith}
+use Rattle.std.proofs.Common.{◌≡◌, false, List, [], get_or, sym, ap, ◌∙◌, subst}
 use Rattle.lists.specs.Tests.{is_empty}
 use Rattle.memory.specs.Reading.{state_of}
 use Rattle.memory.proofs.SearchLaws.{rows-length}

@@ -1,7 +1,5 @@
 -- Whether there is a first mark tells whether a row is listed.
-use Prim.Native.Nat.{ℕ}
-use Rattle.std.proofs.Common.{List, sym, ap, ◌∙◌, arith}
-use Rattle.rules.specs.Next as rules
+use Rattle.std.proofs.Common.{sym, ◌∙◌, arith}
 use Rattle.memory.specs.Reading.{state_of}
 use Rattle.memory.proofs.SearchLaws.{rows-length}
 use Rattle.plain.proofs.MarkLaws.{noted_some, noted_none}

@@ -1,8 +1,8 @@
 -- Each turn sets one row of the matrix, and those before it stay.
-use Rattle.std.proofs.Common.{◌≡◌, arith}
+use Rattle.std.proofs.Common.{arith}
 use native.Mathlib.Numerals.{add-one}
 use Rattle.rules.specs.State.{weights}
-use Rattle.memory.specs.Reading.{row_count_at, state_of}
+use Rattle.memory.specs.Reading.{state_of}
 use Rattle.plain.proofs.MatrixLaws.{marked-none, marked_turn}
 use Rattle.plain.proofs.matrix.filled.Goals as goal
 
