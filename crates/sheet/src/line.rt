@@ -14,6 +14,14 @@ pub struct Line {
 }
 
 impl Line {
+    // A line without rows.
+    pub fn new() -> Line {
+        Line {
+            rows: [0; ROWS],
+            count: 0,
+        }
+    }
+
     // The line of a column of rows with these weights. Each row is written at the next place, which is kept if the row stands in the column.
     pub fn of(weights: &[u32], column: u32) -> Line
         requires { (length weights.now ≤ rows_most) × (column < columns_on_sheet) }
