@@ -66,7 +66,7 @@ fn lay(weights: &[u32], k: u32) -> [Line; COLUMNS]
 {
     let mut lines = [Line::new(); COLUMNS];
     for column in 0..k {
-        lines[column as usize] = Line::of(weights, column);
+        lines[column as usize].lay(weights, column);
     }
     lines
 }

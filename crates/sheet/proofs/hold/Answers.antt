@@ -1,7 +1,6 @@
 -- What is still wanted, from the place reached, gives what was wanted at first; where both have not ended, the list has, and so it is too short.
 use mathlib.Core.Path.{◌≡◌, refl, sym, ◌∙◌}
 use native.Mathlib.Omega.{arith}
-use lib.ListN.{length}
 use Rattle.sheet.proofs.Matching.{place-ended, place_other, place_found, places-end}
 use Rattle.sheet.proofs.hold.Goals as goal
 
