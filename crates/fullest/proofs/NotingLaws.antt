@@ -2,11 +2,14 @@
 use Prim.Native.Nat.{ℕ, zero, suc, ◌+◌, ◌≤◌, ◌<◌}
 use mathlib.Core.Path.{◌≡◌, refl, sym, ap, ◌∙◌}
 use mathlib.Core.Bool.{Bool, true, false, cond}
-use mathlib.Core.List.{List, [], ◌∷◌}
+use mathlib.Core.List.{List, ◌++◌}
 use native.Mathlib.Omega.{arith}
 use lib.Dec.{eqb, ltb}
-use lib.ListN.{length, get_or, take, set, length-set, get_or-eq_default}
-use lib.Seq.{length-take-le, get_or-set_same, get_or-set_other}
+use lib.ListN.{length, get_or, take, set, length-set, get_or-eq_default, length-append, length-drop}
+use lib.Seq.{length-take-le, get_or-set_same, take-set-le, take-take, get_or-take}
+use Rattle.std.proofs.lemmas.List.{get_or_append_left, get_or-append-add}
+use Rattle.std.proofs.lemmas.Slice.{take-put_mid_below}
+use borrow.Rule.Slice.PartMut.{put_mid}
 use borrow.Author.Tests.{eq-eqb, ne_eqb, ltb-true, ltb-false}
 use Rattle.lists.specs.Tabs.{tab}
 use Rattle.lists.proofs.SlotsLaws.{if_eq}
@@ -27,26 +30,6 @@ use Rattle.fullest.specs.Noted.{NotedBy, now_in}
 use Rattle.fullest.proofs.BytesRead.{bytes_fit, bytes_read as read-two}
 use Rattle.fullest.proofs.MovedLaws.{moved-law, movable}
 
--- ---- lists written behind a place
-
-pub take-set : (m : ℕ) (b : List ℕ) (i v : ℕ) → m ≤ i → take m (set b i v) ≡ take m b
-take-set zero b i v h = refl
-take-set (suc m) [] i v h = refl
-take-set (suc m) (x ∷ b) zero v h = absurd (omega arith)
-take-set (suc m) (x ∷ b) (suc i) v h = ap (◌∷◌ x) (take-set m b i v (omega arith))
-
-take-take : (m n : ℕ) (b : List ℕ) → m ≤ n → take m (take n b) ≡ take m b
-take-take zero n b h = refl
-take-take (suc m) zero b h = absurd (omega arith)
-take-take (suc m) (suc n) [] h = refl
-take-take (suc m) (suc n) (x ∷ b) h = ap (◌∷◌ x) (take-take m n b (omega arith))
-
-get_d_front : (m : ℕ) (b : List ℕ) (i : ℕ) → i < m → get_or (take m b) i 0 ≡ get_or b i 0
-get_d_front zero b i h = absurd (omega arith)
-get_d_front (suc m) [] i h = refl
-get_d_front (suc m) (x ∷ b) zero h = refl
-get_d_front (suc m) (x ∷ b) (suc i) h = get_d_front m b i (omega arith)
-
 -- ---- one by one, and all together
 
 slots-tab : (b : List ℕ) (k n : ℕ) → slots_from b k n ≡ tab n (λ i. slot_at b (k + i))
@@ -62,47 +45,38 @@ pub slots-listed : (b : List ℕ) → slots_from b 0 (listed_at b) ≡ list_at b
 slots-listed b =
     slots-tab b 0 (listed_at b) ∙ tab-same (listed_at b) (λ i. slot_at b (0 + i)) (slot_at b) (λ i l. let e : 0 + i ≡ i = omega arith in ap (slot_at b) e)
 
--- ---- the list stored: so far as place k
+-- ---- the list stored: the count, and the five places as one
 
-pub record Stored (line : List ℕ) (n k : ℕ) (b b' : List ℕ) : Type 0 where
-  pub size : length b' ≡ length b
-  pub count : listed_at b' ≡ n
-  pub places : (j : ℕ) → j < k → slot_at b' j ≡ cond (ltb j n) (get_or line j 0) 0
-  pub before : take (note_place the.listed_count) b' ≡ take (note_place the.listed_count) b
-
-pub stored-none : (line : List ℕ) (n : ℕ) (b : List ℕ) → listed_at b ≡ n → Stored line n 0 b b
-stored-none line n b e = record { size = refl; count = e; places = λ j l. absurd (omega arith); before = refl }
-
-pub stored-turn : {line : List ℕ} {n k : ℕ} {b b' : List ℕ} {v : ℕ} → Stored line n k b b' → length b ≡ memory_length → k < listed → v ≡ cond (ltb k n) (get_or line k 0) 0
-    → Stored line n (k + 1) b (set b' (note_place the.fullest + k) v)
-stored-turn {line} {n} {k} {b} {b'} {v} S e l q =
+pub stored : (b line is part : List ℕ) (n : ℕ) → length b ≡ memory_length → length line ≡ listed + 1 → n ≤ listed → ((k : ℕ) → n ≤ k → k < listed → get_or line k 0 ≡ 0)
+    → take n line ≡ is → part ≡ take listed line → Lists is b (put_mid (note_place the.fullest) listed (set b (note_place the.listed_count) n) part)
+stored b line is part n size room few rest e p =
+    let long : length part ≡ listed = ap length p ∙ length-take-le listed line (omega arith) in
+    let counted : length (set b (note_place the.listed_count) n) ≡ memory_length = length-set b (note_place the.listed_count) n ∙ size in
+    let front : length (take (note_place the.fullest) (set b (note_place the.listed_count) n)) ≡ note_place the.fullest = length-take-le (note_place the.fullest) (set b (note_place the.listed_count) n) (omega arith) in
     record {
-      size = length-set b' (note_place the.fullest + k) v ∙ S.size;
-      count = get_or-set_other b' (note_place the.fullest + k) (note_place the.listed_count) v 0 (λ z. absurd (omega arith)) ∙ S.count;
-      places = λ j h.
-          if_eq j k
-          (λ z. rw z (get_or-set_same b' (note_place the.fullest + k) v 0 (omega (arith, S.size)) ∙ q))
-          (λ d. get_or-set_other b' (note_place the.fullest + k) (note_place the.fullest + j) v 0 (λ z. d (omega arith)) ∙ S.places j (before_last d h));
-      before = take-set (note_place the.listed_count) b' (note_place the.fullest + k) v (omega arith) ∙ S.before;
+      size = simp (length-append, length-drop) (omega arith);
+      count =
+          get_or_append_left (take (note_place the.fullest) (set b (note_place the.listed_count) n)) _ 0 (note_place the.listed_count) (omega arith)
+          ∙ get_or-take (note_place the.fullest) (set b (note_place the.listed_count) n) (note_place the.listed_count) 0 (omega arith)
+          ∙ get_or-set_same b (note_place the.listed_count) n 0 (omega arith)
+          ∙ sym (ap length (sym e) ∙ length-take-le n line (omega arith));
+      places = λ k l.
+          placed (take (note_place the.fullest) (set b (note_place the.listed_count) n)) _ k front
+          ∙ get_or_append_left part _ 0 k (omega arith)
+          ∙ ap (λ (xs : List ℕ). get_or xs k 0) p
+          ∙ get_or-take listed line k 0 l
+          ∙ go k l (ltb k n) refl;
+      before = take-put_mid_below (note_place the.fullest) listed (set b (note_place the.listed_count) n) part (note_place the.listed_count) (omega arith) (omega arith) ∙ take-set-le (note_place the.listed_count) b (note_place the.listed_count) n (omega arith);
     }
   where
-    before_last : {j : ℕ} → (j ≡ k → ⊥) → j < k + 1 → j < k
-    before_last d h = omega arith
+    placed : (front behind : List ℕ) (k : ℕ) → length front ≡ note_place the.fullest → get_or (front ++ behind) (note_place the.fullest + k) 0 ≡ get_or behind k 0
+    placed front behind k e = rw (← e) (get_or-append-add front behind k 0)
 
--- from the count on
-pub stored-all : {line : List ℕ} {n : ℕ} {b b' : List ℕ} → Stored line n listed (set b (note_place the.listed_count) n) b' → length line ≡ listed + 1 → n ≤ listed
-    → Lists (take n line) b b'
-stored-all {line} {n} {b} {b'} S e l =
-    record {
-      size = S.size ∙ length-set b (note_place the.listed_count) n;
-      count = S.count ∙ sym (length-take-le n line (omega arith));
-      places = λ k h. S.places k h ∙ go k (ltb k n) refl;
-      before = S.before ∙ take-set (note_place the.listed_count) b (note_place the.listed_count) n (omega arith);
-    }
-  where
-    go : (k : ℕ) (t : Bool) → ltb k n ≡ t → cond t (get_or line k 0) 0 ≡ get_or (take n line) k 0
-    go k true q = sym (get_d_front n line k (ltb-true k n q))
-    go k false q = sym (get_or-eq_default (take n line) 0 (omega (arith, ltb-false k n q, length-take-le n line (omega arith))))
+    go : (k : ℕ) → k < listed → (t : Bool) → ltb k n ≡ t → get_or line k 0 ≡ get_or is k 0
+    go k l true q = sym (get_or-take n line k 0 (ltb-true k n q)) ∙ ap (λ (xs : List ℕ). get_or xs k 0) e
+    go k l false q =
+        rest k (ltb-false k n q) l
+        ∙ sym (get_or-eq_default is 0 (omega (arith, ltb-false k n q, ap length e, length-take-le n line (omega arith))))
 
 -- ---- the bytes of one slot written
 
@@ -145,8 +119,8 @@ module _ (f : ℕ → ℕ) (b b₁ : List ℕ) (s v : ℕ) (N : NotedBy f b) (fi
   unfolding put
   base_same =
       rw changed
-      (take-set base_length (set b (upward (note_place the.bytes + s) slots 0) (byte 0 v)) (upward (note_place the.bytes + s) slots 1) (byte 1 v) (omega arith)
-      ∙ take-set base_length b (upward (note_place the.bytes + s) slots 0) (byte 0 v) (omega arith))
+      (take-set-le base_length (set b (upward (note_place the.bytes + s) slots 0) (byte 0 v)) (upward (note_place the.bytes + s) slots 1) (byte 1 v) (omega arith)
+      ∙ take-set-le base_length b (upward (note_place the.bytes + s) slots 0) (byte 0 v) (omega arith))
 
   -- and moving one entry makes it right: the bytes before are those now with slot s as it was
 
@@ -192,7 +166,7 @@ module _ (f : ℕ → ℕ) (b b₁ : List ℕ) (s v : ℕ) (N : NotedBy f b) (fi
   module _ (b₂ is : List ℕ) (L : Lists is b₁ b₂) (fits₂ : Bytes b₂) (list : is ≡ moved (bytes_at b₁) s (slots_from b₁ 0 n)) where
     before-read : (p : ℕ) → p < note_place the.listed_count → get_or b₂ p 0 ≡ get_or b₁ p 0
     before-read p l =
-        sym (get_d_front (note_place the.listed_count) b₂ p l) ∙ ap (λ (x : List ℕ). get_or x p 0) L.before ∙ get_d_front (note_place the.listed_count) b₁ p l
+        sym (get_or-take (note_place the.listed_count) b₂ p 0 l) ∙ ap (λ (x : List ℕ). get_or x p 0) L.before ∙ get_or-take (note_place the.listed_count) b₁ p 0 l
 
     lanes : (j : ℕ) → j < slots → bytes_at b₂ j ≡ now_in f s v j
     lanes j l =

@@ -1,5 +1,5 @@
 // A slot's key, and the greatest one below a limit.
-ghost use Rattle.std.specs.Prelude.{◌≡◌, cond, ◌+◌, ◌-◌, ◌*◌, ◌<◌, max, ltb, length};
+ghost use Rattle.std.specs.Prelude.{◌≡◌, cond, ◌+◌, ◌-◌, ◌*◌, ◌<◌, ltb, length};
 ghost use Rattle.rules.specs.Numbers.{slots};
 ghost use Rattle.memory.specs.Layout.{memory_length};
 ghost use Rattle.memory.specs.Reading.{bytes_at};
@@ -29,7 +29,7 @@ pub fn wide(x: u8) -> usize
 pub fn two(low: u8, high: u8) -> u16
     ensures { result ≡ low + 256 * high }
 {
-    low as u16 + 256 * (high as u16)
+    u16::from(low) + 256 * u16::from(high)
 }
 
 // The key of a slot with these bytes waiting.
@@ -37,7 +37,7 @@ pub fn key_of(low: u8, high: u8, slot: usize) -> u32
     requires { slot < slots }
     ensures { result ≡ slots * (low + 256 * high) + (slots - 1 - slot) }
 {
-    LEAST * (two(low, high) as u32) + ((SLOTS - 1 - slot) as u32)
+    LEAST * u32::from(two(low, high)) + (SLOTS - 1 - slot) as u32
 }
 
 // A slot's key.
@@ -52,19 +52,7 @@ pub fn key_at(state: &[u8], slot: usize) -> u32
 fn if_below(limit: u32, x: u32) -> u32
     ensures { result ≡ cond (ltb x limit) x 0 }
 {
-    if x < limit {
-        return x;
-    }
-    0
-}
-
-fn larger(x: u32, y: u32) -> u32
-    ensures { result ≡ max x y }
-{
-    if x < y {
-        return y;
-    }
-    x
+    if x < limit { x } else { 0 }
 }
 
 // The greatest key below a limit, 0 where there is none: when a slot leaves the list, this one comes last.
@@ -73,11 +61,9 @@ pub fn best_below(state: &[u8], limit: u32) -> u32
     ensures { slot_of_key result ≡ next_below (bytes_at state.now) limit }
 {
     let mut best: u32 = 0;
-    let mut s = 0;
-    while s < SLOTS {
+    for s in 0..SLOTS {
         let x = key_of(state[BYTES + s], state[BYTES + SLOTS + s], s);
-        best = larger(best, if_below(limit, x));
-        s += 1;
+        best = best.max(if_below(limit, x));
     }
     best
 }

@@ -6,5 +6,6 @@
 #![tactic(auto)]
 
 pub mod keys; // keys.rt: a slot's key, and the greatest one below a limit
+pub mod line; // line.rt: the list while one entry of it is moved
 pub mod moving; // moving.rt: the list after the bytes of one slot changed
 pub mod noting; // noting.rt: the notes of a memory after that

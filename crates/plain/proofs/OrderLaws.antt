@@ -16,10 +16,3 @@ use Rattle.uplink.specs.PutSteps.{risen}
 -- the memory of a state that fits has its rows within the slots
 pub rows-held : {b : List ℕ} → Fits (state_of b) → b ≡ bytes_of (state_of b) → RowsWithin b
 rows-held F e = subst RowsWithin (sym e) (rows-within F)
-
--- the order k found, beside the order that stands
-pub not-risen : (s : State) {k : ℕ} → k ≡ order_of_rows s → k ≤ s.order → s ≡ risen s
-not-risen s {k} e l = let same : s.order ≡ max s.order (order_of_rows s) = omega arith in ap (with_order s) same
-
-pub has_risen : (s : State) {k : ℕ} → k ≡ order_of_rows s → s.order < k → with_order s k ≡ risen s
-has_risen s {k} e l = let same : k ≡ max s.order (order_of_rows s) = omega arith in ap (with_order s) same

@@ -3,16 +3,17 @@
 use Prim.Native.Nat.{ℕ}
 use mathlib.Core.Path.{◌≡◌, refl}
 use mathlib.Core.List.{List}
+use mathlib.Core.Bool.{Bool}
+use Rattle.std.specs.Prelude.{Result}
+use Rattle.answers.specs.declared.Refusal.{Refusal}
+use Rattle.uplink.specs.declared.Opened.{Opened}
+use Rattle.uplink.specs.declared.Taken.{Taken}
+use Rattle.uplink.specs.declared.Sent.{Sent}
+use Rattle.uplink.specs.declared.Asked.{Asked}
 use Rattle.rules.specs.Calls.{open_call, put_call, close_call, ask_call}
 use Rattle.rules.specs.Next.{next_call}
 use Rattle.memory.specs.Memory.{on, start_on}
 use Rattle.uplink.specs.Told.{start_told, open_told, put_told, close_told, next_told, ask_told, leaving}
-use Rattle.uplink.specs.declared.StartAnswer.{StartAnswer}
-use Rattle.uplink.specs.declared.OpenAnswer.{OpenAnswer}
-use Rattle.uplink.specs.declared.PutAnswer.{PutAnswer}
-use Rattle.uplink.specs.declared.CloseAnswer.{CloseAnswer}
-use Rattle.uplink.specs.declared.NextAnswer.{NextAnswer}
-use Rattle.uplink.specs.declared.AskAnswer.{AskAnswer}
 use Rattle.uplink.proofs.NoSecond.{start-once, open_once, put-once, close_once, next-once, ask_once}
 use Rattle.uplink.proofs.open.start.Reads as linked-start
 use Rattle.uplink.proofs.open.open.Reads as linked-open
@@ -50,26 +51,26 @@ ask_contract = (refl, refl)
 -- ---- what the two engines make of the same bytes b, each by its contract: r and m by hand, r' and m' linked
 
 module _ (b : List ℕ) where
-  pub same_start : (e : ℕ) (r r' : StartAnswer) (m m' : List ℕ) → leaving (start_told r) m ≡ start_on e b → leaving (start_told r') m' ≡ start_on e b
+  pub same_start : (e : ℕ) (r r' : Result (Unit {0}) Refusal) (m m' : List ℕ) → leaving (start_told r) m ≡ start_on e b → leaving (start_told r') m' ≡ start_on e b
       → (r ≡ r') × (m ≡ m')
   same_start = start-once b
 
-  pub same_open : (w : ℕ) (r r' : OpenAnswer) (m m' : List ℕ) → leaving (open_told r) m ≡ on (open_call w) b → leaving (open_told r') m' ≡ on (open_call w) b
+  pub same_open : (w : ℕ) (r r' : Result Opened Refusal) (m m' : List ℕ) → leaving (open_told r) m ≡ on (open_call w) b → leaving (open_told r') m' ≡ on (open_call w) b
       → (r ≡ r') × (m ≡ m')
   same_open = open_once b
 
-  pub same-put : (i t n q : ℕ) (r r' : PutAnswer) (m m' : List ℕ) → leaving (put_told r) m ≡ on (put_call i t n q) b
+  pub same-put : (i t n q : ℕ) (r r' : Result Taken Refusal) (m m' : List ℕ) → leaving (put_told r) m ≡ on (put_call i t n q) b
       → leaving (put_told r') m' ≡ on (put_call i t n q) b → (r ≡ r') × (m ≡ m')
   same-put = put-once b
 
-  pub same_close : (i t : ℕ) (r r' : CloseAnswer) (m m' : List ℕ) → leaving (close_told r) m ≡ on (close_call i t) b
+  pub same_close : (i t : ℕ) (r r' : Result Bool Refusal) (m m' : List ℕ) → leaving (close_told r) m ≡ on (close_call i t) b
       → leaving (close_told r') m' ≡ on (close_call i t) b → (r ≡ r') × (m ≡ m')
   same_close = close_once b
 
-  pub same_next : (r r' : NextAnswer) (m m' : List ℕ) → leaving (next_told r) m ≡ on next_call b → leaving (next_told r') m' ≡ on next_call b
+  pub same_next : (r r' : Result Sent Refusal) (m m' : List ℕ) → leaving (next_told r) m ≡ on next_call b → leaving (next_told r') m' ≡ on next_call b
       → (r ≡ r') × (m ≡ m')
   same_next = next-once b
 
   -- Ask is lent its memory to read alone
-  pub same_ask : (i t : ℕ) (r r' : AskAnswer) → leaving (ask_told r) b ≡ on (ask_call i t) b → leaving (ask_told r') b ≡ on (ask_call i t) b → r ≡ r'
+  pub same_ask : (i t : ℕ) (r r' : Result Asked Refusal) → leaving (ask_told r) b ≡ on (ask_call i t) b → leaving (ask_told r') b ≡ on (ask_call i t) b → r ≡ r'
   same_ask = ask_once b

@@ -2,17 +2,19 @@
 ghost use Rattle.std.specs.Prelude.{◌≡◌, ◌+◌, ◌-◌, ◌*◌, ◌%◌, ◌<◌, ◌≤◌, false, length};
 ghost use Rattle.rules.specs.Numbers.{slots, granted, serials, grant_limit};
 ghost use Rattle.rules.specs.Next.{next_call};
-ghost use Rattle.memory.specs.Layout.{base_length};
+ghost use Rattle.memory.specs.Layout.{base_length, bytes_of};
 ghost use Rattle.memory.specs.Memory.{replied, replied_base, on};
 ghost use Rattle.memory.specs.Reading.{waiting_at, state_of};
 ghost use Rattle.uplink.specs.Holds.{TakesCalls, TakesSteps};
 ghost use Rattle.uplink.specs.Told.{next_told, leaving};
 ghost use Rattle.uplink.specs.NextSteps.{Sends, SentFits, SentNoted};
 ghost use Rattle.visits.specs.Choice.{Chose};
+ghost use Rattle.visits.specs.Order.{ordered, Unordered};
 ghost use Rattle.visits.specs.Settle.{paid_head};
 
 use super::Sent;
 use super::admitted::admitted;
+use super::engine::{Engine, Jumping};
 use answers::Refusal;
 use fullest::noting::shrink;
 use memory::heads::{Head, load_head, waiting_of};
@@ -21,25 +23,32 @@ use memory::point::load_scan;
 use memory::records::{first_of, load_record};
 use memory::rows::row_count;
 use rules::{GRANTED, cost_of};
-use visits::choose::{Chosen, choose};
-use visits::order::order_again;
+use visits::choose::Chosen;
+use visits::order::{asks, order_found};
 use visits::settle::settle;
 
 // Next sends one record: an open visit goes on, or the first slot still to visit starts one, or the first of the next column that has a row.
 pub fn next(state: &mut [u8]) -> Result<Sent, Refusal>
     ensures { leaving (next_told result) state.new ≡ on next_call state.old }
 {
+    next_by::<Jumping>(state)
+}
+
+// Next by any engine.
+pub fn next_by<E: Engine>(state: &mut [u8]) -> Result<Sent, Refusal>
+    ensures { leaving (next_told result) state.new ≡ on next_call state.old }
+{
     admitted(state)?;
-    next_noted(state)
+    next_noted::<E>(state)
 }
 
 // Next on a memory that takes calls: on its base, and then the bytes of the slot that sent go down.
-fn next_noted(state: &mut [u8]) -> Result<Sent, Refusal>
+fn next_noted<E: Engine>(state: &mut [u8]) -> Result<Sent, Refusal>
     requires { TakesCalls state.old }
     ensures { leaving (next_told result) state.new ≡ replied state.old (next_call (state_of state.old)) }
 {
     let end = BASE;
-    let sent = next_in(&mut state[..end])?;
+    let sent = next_in::<E>(&mut state[..end])?;
     note_sent(state, sent);
     Ok(sent)
 }
@@ -53,7 +62,7 @@ pub fn note_sent(state: &mut [u8], sent: Sent)
 }
 
 // Next on the base of a memory that takes calls.
-fn next_in(state: &mut [u8]) -> Result<Sent, Refusal>
+fn next_in<E: Engine>(state: &mut [u8]) -> Result<Sent, Refusal>
     requires { TakesSteps state.old }
     ensures { leaving (next_told result) state.new ≡ replied_base state.old (next_call (state_of state.old)) }
 {
@@ -61,10 +70,21 @@ fn next_in(state: &mut [u8]) -> Result<Sent, Refusal>
         return Err(Refusal::NoneWaits);
     }
     let scan = load_scan(state);
-    let chosen = choose(state, scan);
+    let chosen = E::choose(state, scan);
     let sent = send(state, chosen);
-    order_again(state, chosen.slot);
+    order_again::<E>(state, chosen.slot);
     Ok(sent)
+}
+
+// The record of a slot has left, and the order is not worked out yet: it falls where a row left with the record, and is worked out afresh where a round is over.
+fn order_again<E: Engine>(state: &mut [u8], slot: usize)
+    requires { Unordered state.old × (slot < slots) }
+    ensures { state.new ≡ bytes_of (ordered slot (state_of state.old)) }
+{
+    if asks(state, slot) {
+        let order = E::order_of_rows(state);
+        order_found(state, slot, order);
+    }
 }
 
 // "The head record is sent and its length taken from the deficit": its cost, by 02 §1. Its place is worked out once: no step of a send moves it. The order is

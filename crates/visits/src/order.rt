@@ -1,6 +1,6 @@
 // The order after a record has left: it falls where a row left with the record, and is worked out afresh where a round is over.
 //
-// Whether it is to be worked out (`asks`) and what becomes of the memory then (`order_found`) do not depend on how it is worked out.
+// Whether it is to be worked out (`asks`) and what becomes of the memory then (`order_found`) do not depend on who works it out.
 ghost use Rattle.std.specs.Prelude.{◌≡◌, true, cond, ◌%◌, ◌^◌, ◌≤◌, ◌<◌};
 ghost use Rattle.spread.specs.Limits.{columns};
 ghost use Rattle.rules.specs.Numbers.{slots};
@@ -13,19 +13,6 @@ use memory::layout::Position;
 use memory::point::{
     Scan, holds, load_position, load_scan, round_over, store_order, store_scan, turns,
 };
-use memory::search::order_of_rows;
-
-// The record of a slot has left, and the order is not worked out yet.
-pub fn order_again(state: &mut [u8], slot: usize)
-    requires { Unordered state.old × (slot < slots) }
-    ensures { state.new ≡ bytes_of (ordered slot (state_of state.old)) }
-{
-    if !asks(state, slot) {
-        return;
-    }
-    let order = order_of_rows(state);
-    order_found(state, slot, order);
-}
 
 // Whether the order is to be worked out: it falls, or the round is over.
 pub fn asks(state: &[u8], slot: usize) -> bool

@@ -1,30 +1,26 @@
 -- The bytes are written, and moving one entry makes the list right again.
+use native.Mathlib.Omega.{arith}
 use Rattle.octets.specs.Number.{Bytes}
 use Rattle.fullest.proofs.NotingLaws.{few-now, movable-now, noted-now, base_kept}
 use borrow.Author.Rules.{rules}
 use Rattle.fullest.proofs.noting.note.Goals as goal
 
-pub move_one-c-requires : goal.move_one-c-requires
-move_one-c-requires c =
+pub move_one-requires : goal.move_one-requires
+move_one-requires c =
     let b₁ = c.write_u16.new.b in
-    let fits : Bytes b₁ = λ i. (c.slice_known-3-1.given i).fits in
+    let fits : Bytes b₁ = λ i. grind arith in
     let small = c.ranges.bytes.fits in
-    let few = few-now c.requires.0.bytes c.args.state.now b₁ c.args.slot c.args.bytes c.requires.0.right fits c.requires.1 small c.write_u16.ensures c.wide-n.ensures.0 in
-    let movable = movable-now c.requires.0.bytes c.args.state.now b₁ c.args.slot c.args.bytes c.requires.0.right fits c.requires.1 small c.write_u16.ensures c.wide-n.ensures.0 in
-    (search rules, few, c.requires.1, search rules, movable)
-
-pub store_list-requires : goal.store_list-requires
-store_list-requires c =
-    (search rules, c.move_one-c.ensures.1, c.move_one-c.ensures.0)
+    let few = few-now c.requires.0.bytes c.args.state.now b₁ c.args.slot c.args.bytes c.requires.0.right fits c.requires.1 small c.write_u16.ensures c.from-n.ensures in
+    let movable = movable-now c.requires.0.bytes c.args.state.now b₁ c.args.slot c.args.bytes c.requires.0.right fits c.requires.1 small c.write_u16.ensures c.from-n.ensures in
+    (search rules, few, c.requires.1, movable)
 
 pub returns : goal.returns
 returns c =
     let b₁ = c.write_u16.new.b in
-    let fits : Bytes b₁ = λ i. (c.slice_known-3-1.given i).fits in
+    let fits : Bytes b₁ = λ i. grind arith in
     let small = c.ranges.bytes.fits in
     let changed = c.write_u16.ensures in
-    let stored = c.store_list.ensures in
-    let moves = c.move_one-c.ensures.2 in (
-      λ f N. noted-now f c.args.state.now b₁ c.args.slot c.args.bytes N fits c.requires.1 small changed c.wide-n.ensures.0 _ _ stored (λ i. (c.slice_known-4-1.given i).fits) moves,
-      base_kept c.requires.0.bytes c.args.state.now b₁ c.args.slot c.args.bytes c.requires.0.right fits c.requires.1 small changed c.wide-n.ensures.0 _ _ stored (λ i. (c.slice_known-4-1.given i).fits) moves,
+    let fits-now : Bytes c.store.new.state = λ i. (c.type_inv.state i).fits in (
+      λ f N. noted-now f c.args.state.now b₁ c.args.slot c.args.bytes N fits c.requires.1 small changed c.from-n.ensures _ _ c.store.ensures fits-now c.move_one.ensures.1,
+      base_kept c.requires.0.bytes c.args.state.now b₁ c.args.slot c.args.bytes c.requires.0.right fits c.requires.1 small changed c.from-n.ensures _ _ c.store.ensures fits-now c.move_one.ensures.1,
     )

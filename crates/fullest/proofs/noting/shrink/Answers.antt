@@ -10,8 +10,8 @@ returns c =
     let b = c.args.state.now in
     let n = c.note.ensures in (
       λ f N.
-          let was : c.bytes_of-bytes.result ≡ f c.args.slot
-          = c.bytes_of-bytes.ensures ∙ bytes_read f (λ i l. N.small i) b N.notes c.args.slot c.requires.1 in
+          let was : c.bytes_of.result ≡ f c.args.slot
+          = c.bytes_of.ensures ∙ bytes_read f (λ i l. N.small i) b N.notes c.args.slot c.requires.1 in
           subst (λ (x : ℕ). NotedBy (now_in f c.args.slot (x - c.args.length)) c.note.new.state) was (n.0 f N),
       n.1,
     )

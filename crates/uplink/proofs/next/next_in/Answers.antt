@@ -6,27 +6,27 @@ use Rattle.uplink.proofs.SentState.{sent-ordered, no_rows, chooses, chose}
 use Rattle.uplink.proofs.next.next_in.Goals as goal
 
 pub row_count-requires : goal.row_count-requires
-row_count-requires c = (base-sound _ c.requires.0).size
+row_count-requires g c = (base-sound _ c.requires.0).size
 
 pub returns-then-row_count-eq0 : goal.returns-then-row_count-eq0
-returns-then-row_count-eq0 c =
+returns-then-row_count-eq0 g c =
     let b = c.args.state.now in
     ap (replied_base b) (sym (no_rows b c.requires.1 (sym c.row_count.ensures.0 ∙ c.if-row_count-eq0.true)))
 
 pub load_scan-scan-requires : goal.load_scan-scan-requires
-load_scan-scan-requires c = (base-sound _ c.requires.0).size
+load_scan-scan-requires g c = (base-sound _ c.requires.0).size
 
 pub choose-chosen-requires : goal.choose-chosen-requires
-choose-chosen-requires c = chooses _ c.requires.0 c.row_count.ensures.0 c.if-row_count-eq0.false c.load_scan-scan.ensures
+choose-chosen-requires g c = chooses _ c.requires.0 c.row_count.ensures.0 c.if-row_count-eq0.false c.load_scan-scan.ensures
 
 pub send-sent-requires : goal.send-sent-requires
-send-sent-requires c =
+send-sent-requires g c =
     (chose _ c.requires.0 c.row_count.ensures.0 c.if-row_count-eq0.false c.choose-chosen.ensures, c.requires.1)
 
 pub order_again-requires : goal.order_again-requires
-order_again-requires c =
+order_again-requires g c =
     let z = c.send-sent.ensures in
     (z.unordered, z.slot_lt)
 
 pub returns : goal.returns
-returns c = sent-ordered c.send-sent.ensures c.order_again.ensures
+returns g c = sent-ordered c.send-sent.ensures c.order_again.ensures
