@@ -6,7 +6,7 @@ ghost use Rattle.driver.specs.Words.{words, twos};
 
 use answers::{Refusal, number_of};
 use octets::clear::clear;
-use octets::low_first::write_u32;
+use octets::low_first::write;
 
 // The number of an answer buffer of another length: "One of another length gets 10 before all else".
 pub fn wrong_length() -> u32
@@ -30,7 +30,7 @@ pub fn give(answer: &mut [u8], fields: &[u32]) -> u32
 {
     let mut i = 0;
     while i < fields.len() {
-        write_u32(answer, 4 * i, 1, fields[i]);
+        write(answer, 4 * i, 1, fields[i]);
         i += 1;
     }
     0

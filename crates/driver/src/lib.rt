@@ -17,7 +17,7 @@ ghost use Rattle.driver.specs.Entered.{entry, entered, park_entry, park_entered,
 use answers::number_of;
 use fields::{bits_of, give, refuse, wrong_length};
 use image::ParkAnswer;
-use octets::low_first::write_u64;
+use octets::low_first::write;
 use reader::UnparkAnswer;
 use records::{sent, taken};
 use sheet::SheetAnswer;
@@ -217,7 +217,7 @@ pub extern "C" fn uplink_lead(w1: u32, v1: u32, w2: u32, v2: u32, answer: &mut [
     }
     match spread::lead(w1, v1, w2, v2) {
         LeadAnswer::Lead(lead) => {
-            write_u64(answer, 0, 1, bits_of(lead));
+            write(answer, 0, 1, bits_of(lead));
             0
         }
         LeadAnswer::Refused(why) => refuse(answer, why),

@@ -18,7 +18,7 @@ returns-in-Lead c =
     let exact = to_z-of_z {w = w64} {z = c.in-Lead.lead} (search rules) in
     let bits = c.bits_of.ensures ∙ ap twos exact in
     entered-given _ _ _ _ _ _ room (ap stateless (rw c.in-Lead.is at c.lead.ensures))
-    (refl, c.write_u64.ensures ∙ put_whole 8 _ _ room ∙ ap (low_first 8) bits)
+    (refl, c.write.ensures ∙ put_whole 8 _ _ room ∙ ap (low_first 8) bits)
 
 pub returns-in-Refused : goal.returns-in-Refused
 returns-in-Refused c =

@@ -19,8 +19,8 @@ offset_bounds-fields-i c = omega arith
 pub bounds-fields-i : goal.bounds-fields-i
 bounds-fields-i c = omega arith
 
-pub write_u32-requires : goal.write_u32-requires
-write_u32-requires c = omega arith
+pub write-requires : goal.write-requires
+write-requires c = omega arith
 
 pub overflow_add-i : goal.overflow_add-i
 overflow_add-i c = omega arith
@@ -30,7 +30,7 @@ loop-i-smaller c = omega arith
 
 pub loop-i-preserved : goal.loop-i-preserved
 loop-i-preserved c =
-    let w = c.write_u32 in
+    let w = c.write in
     let l = c.loop-i in
     let here : l.i < length c.args.fields.now = omega arith in (
       omega arith,
