@@ -1,41 +1,26 @@
 -- What is still wanted, from the place reached, gives what was wanted at first.
-use mathlib.Core.Path.{refl, sym, ◌∙◌}
+use mathlib.Core.Path.{sym, ◌∙◌}
 use native.Mathlib.Numerals.{add-one}
-use native.Mathlib.Omega.{arith}
 use Rattle.sheet.proofs.Matching.{place-ended, place_other, place_found, places-end}
 use Rattle.sheet.proofs.hold.Goals as goal
-
-pub loop-i-init : goal.loop-i-init
-loop-i-init c = (omega arith, refl)
+use Rattle.sheet.proofs.hold.Goals.{then-rows-at-via-then-rows-at, then-rows-at-via-else-rows-at+then-rows-at-2}
 
 pub returns-then-rows-at : goal.returns-then-rows-at
 returns-then-rows-at c =
-    let a = c.args in
-    let turn = c.loop-i in
-    sym (turn.invariant.1 ∙ place-ended a.rows.now a.line.now turn.at turn.i c.loop-i-test.true c.if-rows-at.true)
-
-pub returns-then-rows-at-2 : goal.returns-then-rows-at-2
-returns-then-rows-at-2 c =
-    let a = c.args in
-    let l = c.loop-i in
+    let l = c.loop-row in
     sym
-    (l.invariant.1
-    ∙ place_other a.rows.now a.line.now l.at l.i c.loop-i-test.true
-    c.if-rows-at.false (λ e. c.if-rows-at-2.true (e ∙ sym c.wide.ensures)))
+    (sym l.invariant
+    ∙ elim c.then-rows-at.branch [
+      | then-rows-at-via-then-rows-at w ↦ place-ended _ _ _ _ c.loop-row-test.true w.if-rows-at.true
+      | then-rows-at-via-else-rows-at+then-rows-at-2 w ↦
+          place_other _ _ _ _ c.loop-row-test.true w.if-rows-at.false (λ e. w.if-rows-at-2.true (e ∙ sym w.from.ensures))
+    ])
 
-pub loop-i-preserved : goal.loop-i-preserved
-loop-i-preserved c =
-    let a = c.args in
-    let l = c.loop-i in (
-      omega arith,
-      rw (add-one l.at, add-one l.i)
-          (l.invariant.1
-          ∙ place_found a.rows.now a.line.now l.at l.i c.loop-i-test.true
-          c.if-rows-at.false (c.if-rows-at-2.false ∙ c.wide.ensures)),
-    )
+pub loop-row-preserved : goal.loop-row-preserved
+loop-row-preserved c =
+    let l = c.loop-row in
+    rw (add-one l.at, add-one l.row-index)
+    (sym (place_found _ _ _ _ c.loop-row-test.true c.if-rows-at.false (c.if-rows-at-2.false ∙ c.from.ensures)) ∙ l.invariant)
 
 pub returns : goal.returns
-returns c =
-    let a = c.args in
-    let l = c.loop-i in
-    sym (l.invariant.1 ∙ places-end a.rows.now a.line.now l.at l.i c.loop-i-test.false)
+returns c = sym (sym c.loop-row.invariant ∙ places-end _ _ _ _ c.loop-row-test.false)

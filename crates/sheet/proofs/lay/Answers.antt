@@ -1,27 +1,14 @@
--- The columns before c are laid.
-use mathlib.Core.Path.{◌≡◌}
-use native.Mathlib.Numerals.{add-one}
+-- What holds of each line where it is made holds of it in the array.
 use native.Mathlib.Omega.{arith}
-use lib.ListN.{length-set}
-use Rattle.sheet.proofs.LinesLaws.{laid_none, laid-turn}
+use mathlib.Core.Path.{◌≡◌}
+use borrow.Author.Rules.{rules}
+use Rattle.spread.specs.Round.{rows_with}
+use Rattle.sheet.specs.Lines.{rows_of}
+use Rattle.sheet.proofs.LinesLaws.{made-same}
 use Rattle.sheet.proofs.lay.Goals as goal
-
-pub loop-c-init : goal.loop-c-init
-loop-c-init c =
-    (omega arith, c.requires.2.0, c.requires.2.1, laid_none _ _ _)
-
-pub loop-c-preserved : goal.loop-c-preserved
-loop-c-preserved c =
-    let l = c.loop-c in
-    let one = c.lay_one in (
-      omega arith,
-      omega (arith, one.auto.lines, l.invariant.1),
-      omega (arith, length-set l.counts l.c one.result, l.invariant.2),
-      rw (add-one l.c) (laid-turn c.args.weights.now l.lines _ l.counts l.c one.result (omega arith) l.invariant.3 one.ensures),
-    )
 
 pub returns : goal.returns
 returns c =
-    let l = c.loop-c in
-    let e : l.c ≡ c.args.k = omega arith in
-    rw e at l.invariant.3
+    λ k other h.
+    made-same _ (λ i l. rows_of l ≡ rows_with i 0 c.args.weights.now) _ (λ i l q call. search rules) c.from_fn.result 0 12 c.from_fn.ensures.items.each k
+    other (omega arith) (omega arith)
