@@ -27,7 +27,8 @@ pub fn note(state: &mut [u8], slot: usize, bytes: u16)
 {
     write(state, BYTES + slot, SLOTS, bytes);
     let n = usize::from(state[LISTED_COUNT]);
-    move_one(state, n, slot).store(state);
+    let line = move_one(state.first_chunk().unwrap(), n, slot);
+    line.store(state);
 }
 
 // A record of a length came to a slot, or left it. (Two functions: a closure for + and - would be longer than the line they differ in, and they ask different things.)
