@@ -1,4 +1,3 @@
 pub mod WordsLaws
 pub mod EnteredLaws
-pub mod Twos
 pub mod Examples

@@ -1,6 +1,8 @@
 -- What an entry for C does: the number sent back, and the bytes of both lent buffers.
-use Rattle.std.specs.Prelude.{ℕ, cond, List, [], ◌∷◌, eqb, length, replicate, ℤ}
+use Rattle.std.specs.Prelude.{◌≡◌, ℕ, cond, List, [], ◌∷◌, eqb, length, replicate, ℤ, Result}
 use Rattle.answers.specs.Answer.{unsound, number_of, Answer, refused, given, number}
+use Rattle.answers.specs.declared.Refusal.{Refusal}
+use Rattle.answers.specs.Told.{answered}
 use Rattle.rules.specs.Calls.{Opened, Taken, Closed, Asked, Entry as Filling}
 use Rattle.rules.specs.Next.{Sent}
 use Rattle.rules.specs.Listed.{opened_fields, taken_fields, closed_fields, sent_fields, asked_fields}
@@ -23,6 +25,11 @@ entry n s a = record { number = n; state = s; answer = a }
 abbrev pub shown : {A : Type 0} → ℕ → (A → List ℕ) → Answer A → List ℕ
 shown n bytes (refused r) = replicate n 0
 shown n bytes (given a) = bytes a
+
+-- what comes back of an answer of the code, by the numbers of what it gives: its number r, and the n bytes b
+pub record Comes {T : Type 0} (n : ℕ) (numbers : T → List ℕ) (told : Result T Refusal) (r : ℕ) (b : List ℕ) : Type 0 where
+  pub number_is : r ≡ number (answered told)
+  pub bytes_are : b ≡ shown n (λ a. words (numbers a)) (answered told)
 
 -- a call whose answer is n bytes: "an answer buffer of another length gives 10 before all else: neither buffer is touched"
 unfoldable pub entered : {A : Type 0} → ℕ → (A → List ℕ) → Left A → List ℕ → List ℕ → Entry

@@ -14,28 +14,16 @@ ghost use Rattle.image.specs.Parked.{park_on, read_on};
 ghost use Rattle.sheet.specs.Sheet.{sheet_call};
 ghost use Rattle.driver.specs.Entered.{entry, entered, park_entry, park_entered, stateless, start_bytes, open_bytes, put_bytes, close_bytes, next_bytes, ask_bytes, fullest_bytes, term_bytes, lead_bytes, sheet_bytes};
 
-use answers::number_of;
-use fields::{bits_of, give, refuse, wrong_length};
-use image::ParkAnswer;
-use octets::low_first::write_u64;
-use reader::UnparkAnswer;
-use records::{sent, taken};
-use sheet::SheetAnswer;
-use spread::{LeadAnswer, TermAnswer};
-use uplink::{AskAnswer, CloseAnswer, FullestAnswer, OpenAnswer, StartAnswer};
+use fields::{told, wrong_length};
 
 pub mod fields; // fields.rt: numbers and fields
-pub mod records; // records.rt: what Put and Next answer
 
 // Makes the state fresh, of an edition. It has no answer buffer.
 #[unsafe(no_mangle)]
 pub extern "C" fn uplink_start(state: &mut [u8], edition: u32) -> u32
     ensures { entry result state.new [] ≡ entered 0 start_bytes (start_on edition state.old) state.old [] }
 {
-    match uplink::open::start(state, edition) {
-        StartAnswer::Started => 0,
-        StartAnswer::Refused(why) => number_of(why),
-    }
+    told(&mut [], uplink::open::start(state, edition))
 }
 
 // Opens a channel. Answer: slot, ticket.
@@ -46,13 +34,7 @@ pub extern "C" fn uplink_open(state: &mut [u8], weight: u32, answer: &mut [u8]) 
     if answer.len() != 8 {
         return wrong_length();
     }
-    match uplink::open::open(state, weight) {
-        OpenAnswer::Opened { slot, ticket } => {
-            let fields = [slot, ticket];
-            give(answer, &fields)
-        }
-        OpenAnswer::Refused(why) => refuse(answer, why),
-    }
+    told(answer, uplink::open::open(state, weight))
 }
 
 // Adds a record. Answer: serial, number now waiting.
@@ -70,8 +52,10 @@ pub extern "C" fn uplink_put(
     if answer.len() != 8 {
         return wrong_length();
     }
-    let told = uplink::put::put(state, slot, ticket, length, reference);
-    taken(answer, told)
+    told(
+        answer,
+        uplink::put::put(state, slot, ticket, length, reference),
+    )
 }
 
 // Closes a channel. Answer: 1 if its slot is free at once, 0 if its records are sent first.
@@ -82,13 +66,7 @@ pub extern "C" fn uplink_close(state: &mut [u8], slot: u32, ticket: u32, answer:
     if answer.len() != 4 {
         return wrong_length();
     }
-    match uplink::close::close(state, slot, ticket) {
-        CloseAnswer::Closed(freed) => {
-            let fields = [freed];
-            give(answer, &fields)
-        }
-        CloseAnswer::Refused(why) => refuse(answer, why),
-    }
+    told(answer, uplink::close::close(state, slot, ticket))
 }
 
 // Takes the next record to send off its queue. Answer: slot, ticket, length, reference, serial, 1 if this send started a visit else 0, terms taken.
@@ -99,8 +77,7 @@ pub extern "C" fn uplink_next(state: &mut [u8], answer: &mut [u8]) -> u32
     if answer.len() != 28 {
         return wrong_length();
     }
-    let told = uplink::next::next(state);
-    sent(answer, told)
+    told(answer, uplink::next::next(state))
 }
 
 // Tells of a channel, and changes nothing. Answer: 1 for open or 2 for closing, weight, deficit, number waiting, bytes waiting.
@@ -111,19 +88,7 @@ pub extern "C" fn uplink_ask(state: &[u8], slot: u32, ticket: u32, answer: &mut 
     if answer.len() != 20 {
         return wrong_length();
     }
-    match uplink::ask::ask(state, slot, ticket) {
-        AskAnswer::Asked {
-            kind,
-            weight,
-            deficit,
-            waiting,
-            bytes,
-        } => {
-            let fields = [kind, weight, deficit, waiting, bytes];
-            give(answer, &fields)
-        }
-        AskAnswer::Refused(why) => refuse(answer, why),
-    }
+    told(answer, uplink::ask::ask(state, slot, ticket))
 }
 
 // Tells of the fullest channels, and changes nothing. Answer: how many are listed, then five times slot, bytes waiting, the fullest first; zeros behind the last.
@@ -134,32 +99,7 @@ pub extern "C" fn uplink_fullest(state: &[u8], answer: &mut [u8]) -> u32
     if answer.len() != 44 {
         return wrong_length();
     }
-    match uplink::filling::fullest(state) {
-        FullestAnswer::Listed {
-            count,
-            first,
-            second,
-            third,
-            fourth,
-            fifth,
-        } => {
-            let fields = [
-                count,
-                first.slot,
-                first.bytes,
-                second.slot,
-                second.bytes,
-                third.slot,
-                third.bytes,
-                fourth.slot,
-                fourth.bytes,
-                fifth.slot,
-                fifth.bytes,
-            ];
-            give(answer, &fields)
-        }
-        FullestAnswer::Refused(why) => refuse(answer, why),
-    }
+    told(answer, uplink::filling::fullest(state))
 }
 
 // Parks the queues: the image of the state goes into a buffer, and the state takes only start and the reader from then on. Answer: the image's length.
@@ -170,13 +110,7 @@ pub extern "C" fn uplink_park(state: &mut [u8], image: &mut [u8], answer: &mut [
     if answer.len() != 4 {
         return wrong_length();
     }
-    match image::writer::park(state, image) {
-        ParkAnswer::Parked(length) => {
-            let fields = [length];
-            give(answer, &fields)
-        }
-        ParkAnswer::Refused(why) => refuse(answer, why),
-    }
+    told(answer, image::writer::park(state, image))
 }
 
 // Reads an image into the state, whatever stood there. It has no answer buffer.
@@ -184,10 +118,7 @@ pub extern "C" fn uplink_park(state: &mut [u8], image: &mut [u8], answer: &mut [
 pub extern "C" fn uplink_unpark(state: &mut [u8], image: &[u8]) -> u32
     ensures { entry result state.new [] ≡ entered 0 start_bytes (read_on image.now state.old) state.old [] }
 {
-    match reader::reader::unpark(state, image) {
-        UnparkAnswer::Read => 0,
-        UnparkAnswer::Refused(why) => number_of(why),
-    }
+    told(&mut [], reader::reader::unpark(state, image))
 }
 
 // The term at a position of the spread sequence of an order. Answer: the term.
@@ -198,13 +129,7 @@ pub extern "C" fn uplink_term(order: u32, position: u32, answer: &mut [u8]) -> u
     if answer.len() != 4 {
         return wrong_length();
     }
-    match spread::term(order, position) {
-        TermAnswer::Term(term) => {
-            let fields = [term];
-            give(answer, &fields)
-        }
-        TermAnswer::Refused(why) => refuse(answer, why),
-    }
+    told(answer, spread::term(order, position))
 }
 
 // The signed lead of two weights and visit counts. Answer: the lead, 8 bytes.
@@ -215,13 +140,7 @@ pub extern "C" fn uplink_lead(w1: u32, v1: u32, w2: u32, v2: u32, answer: &mut [
     if answer.len() != 8 {
         return wrong_length();
     }
-    match spread::lead(w1, v1, w2, v2) {
-        LeadAnswer::Lead(lead) => {
-            write_u64(answer, 0, 1, bits_of(lead));
-            0
-        }
-        LeadAnswer::Refused(why) => refuse(answer, why),
-    }
+    told(answer, spread::lead(w1, v1, w2, v2))
 }
 
 // Whether a list of row numbers is the visits of one round of rows with these weights. Answer: 1 if accepted else 0, the first wrong place (0 if accepted).
@@ -232,15 +151,5 @@ pub extern "C" fn uplink_sheet(weights: &[u32], rows: &[u32], answer: &mut [u8])
     if answer.len() != 8 {
         return wrong_length();
     }
-    match sheet::check(weights, rows) {
-        SheetAnswer::Right => {
-            let fields = [1, 0];
-            give(answer, &fields)
-        }
-        SheetAnswer::WrongAt(place) => {
-            let fields = [0, place];
-            give(answer, &fields)
-        }
-        SheetAnswer::Refused(why) => refuse(answer, why),
-    }
+    told(answer, sheet::check(weights, rows))
 }

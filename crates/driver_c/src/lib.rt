@@ -1,7 +1,7 @@
 // What the archive of the entries for C exports: the functions of crate driver, under their own names, and nothing else. include/uplink.h declares them.
 //
-// A library is no static library, and a library's functions are exported from none: so each entry stands here once more, calls the function of its name and
-// states its contract again, word for word (host/tests/contracts.rs holds the two against each other).
+// Twins of crate driver's functions, which the C interface needs: a library is no static library, and a library's functions are exported from none. So each
+// calls the function of its name and states its contract again, word for word (host/tests/contracts.rs holds the two against each other).
 #![tactic(auto)]
 
 ghost use Rattle.std.specs.Prelude.{◌≡◌, []};

@@ -6,7 +6,7 @@ ghost use Rattle.memory.specs.Reading.{bytes_at};
 ghost use Rattle.fullest.specs.Keys.{key};
 ghost use Rattle.fullest.specs.Moved.{next_below, slot_of_key};
 
-use memory::layout::BYTES;
+use memory::layout::{BYTES, Memory};
 use rules::SLOTS;
 
 // Larger than any key.
@@ -56,8 +56,7 @@ fn if_below(limit: u32, x: u32) -> u32
 }
 
 // The greatest key below a limit, 0 where there is none: when a slot leaves the list, this one comes last.
-pub fn best_below(state: &[u8], limit: u32) -> u32
-    requires { length state.now ≡ memory_length }
+pub fn best_below(state: &Memory, limit: u32) -> u32
     ensures { slot_of_key result ≡ next_below (bytes_at state.now) limit }
 {
     let mut best: u32 = 0;

@@ -8,7 +8,7 @@ ghost use Rattle.fullest.specs.Keys.{key};
 ghost use Rattle.fullest.specs.Moved.{without, least_of, put_in, slot_of_key, FallingLine};
 
 use super::keys::{LAST, LEAST, TOP, key_at};
-use memory::layout::{FULLEST, LISTED_COUNT};
+use memory::layout::{FULLEST, LISTED_COUNT, Memory};
 use rules::LISTED;
 use std::marker::Model;
 
@@ -42,8 +42,8 @@ impl Line {
     }
 
     // The n listed slots but one, in their order.
-    pub fn without(state: &[u8], n: usize, slot: usize) -> Line
-        requires { (length state.now ≡ memory_length) × (n ≤ listed) }
+    pub fn without(state: &Memory, n: usize, slot: usize) -> Line
+        requires { n ≤ listed }
         ensures { (length result ≤ n) × (result ≡ without slot (slots_from state.now 0 n)) }
     {
         let mut line = Line::new();
@@ -83,8 +83,8 @@ impl Line {
     }
 
     // A slot put in where it belongs among the others, whose keys fall: what it is ahead of moves on by one place.
-    pub fn put_in(&mut self, state: &[u8], slot: u8)
-        requires { (length state.now ≡ memory_length) × (length self.old ≤ listed) × (slot < slots) × FallingLine (bytes_at state.now) (length self.old) self.old }
+    pub fn put_in(&mut self, state: &Memory, slot: u8)
+        requires { (length self.old ≤ listed) × (slot < slots) × FallingLine (bytes_at state.now) (length self.old) self.old }
         ensures { self.new ≡ put_in (key (bytes_at state.now)) slot self.old }
     {
         let mut held = slot;
@@ -97,8 +97,8 @@ impl Line {
     }
 
     // The last key, and the number above all keys where there is none.
-    pub fn least(&self, state: &[u8]) -> u32
-        requires { (length state.now ≡ memory_length) × FallingLine (bytes_at state.now) (length self.now) self.now }
+    pub fn least(&self, state: &Memory) -> u32
+        requires { FallingLine (bytes_at state.now) (length self.now) self.now }
         ensures { result ≡ least_of (key (bytes_at state.now)) self.now }
     {
         if self.count == 0 {
@@ -125,8 +125,8 @@ impl Line {
 }
 
 // Of two slots, the one with the greater key, and the other.
-fn in_order(state: &[u8], t: u8, other: u8) -> (u8, u8)
-    requires { (length state.now ≡ memory_length) × (t < slots) × (other < slots) }
+fn in_order(state: &Memory, t: u8, other: u8) -> (u8, u8)
+    requires { (t < slots) × (other < slots) }
     ensures { result ≡ cond (ltb (key (bytes_at state.now) t) (key (bytes_at state.now) other)) (other, t) (t, other) }
 {
     if key_at(state, usize::from(t)) < key_at(state, usize::from(other)) {

@@ -9,7 +9,7 @@ ghost use Rattle.fullest.specs.Noted.{NotedBy, Noted, now_in};
 use super::keys::two;
 use super::moving::move_one;
 use memory::layout::{BYTES, LISTED_COUNT};
-use octets::low_first::write_u16;
+use octets::low_first::write;
 use rules::SLOTS;
 
 // The bytes that wait in a slot.
@@ -25,9 +25,10 @@ pub fn note(state: &mut [u8], slot: usize, bytes: u16)
     requires { Noted state.old × (slot < slots) }
     ensures { ((f : ℕ → ℕ) → NotedBy f state.old → NotedBy (now_in f slot bytes) state.new) × (base state.new ≡ base state.old) }
 {
-    write_u16(state, BYTES + slot, SLOTS, bytes);
+    write(state, BYTES + slot, SLOTS, bytes);
     let n = usize::from(state[LISTED_COUNT]);
-    move_one(state, n, slot).store(state);
+    let line = move_one(state.first_chunk().unwrap(), n, slot);
+    line.store(state);
 }
 
 // A record of a length came to a slot, or left it. (Two functions: a closure for + and - would be longer than the line they differ in, and they ask different things.)

@@ -5,10 +5,11 @@ use mathlib.Core.Bool.{true, false}
 use mathlib.Core.List.{List}
 use lib.ListN.{length}
 use borrow.Author.Tests.{lt-ltb, le-ltb, eq-eqb, ne_eqb}
+use Rattle.std.specs.Prelude.{Result, Ok, Err}
 use Rattle.answers.specs.Answer.{too_many, bad_weight, refused, given}
 use Rattle.spread.specs.Round.{round_of}
 use Rattle.sheet.specs.Sheet.{right, wrong_at, rows_most, any_bad, sheet_call}
-use Rattle.sheet.specs.Matching.{Match, on, wrong, matched}
+use Rattle.sheet.specs.Matching.{matched}
 use Rattle.sheet.proofs.Matching.{finish, matched_sheet}
 
 module _ (ws rows : List ℕ) where
@@ -21,15 +22,15 @@ module _ (ws rows : List ℕ) where
   says-bad h b = rw (le-ltb rows_most (length ws) h, b) refl
 
   module _ (h : length ws ≤ rows_most) (b : any_bad ws ≡ false) where
-    says : (m : Match) → m ≡ matched rows 0 (round_of ws) → given (finish (length rows) m) ≡ sheet_call ws rows
+    says : (m : Result ℕ ℕ) → m ≡ matched rows 0 (round_of ws) → given (finish (length rows) m) ≡ sheet_call ws rows
     unfolding sheet_call
     says m e = rw (le-ltb rows_most (length ws) h, b, e) (ap given (matched_sheet rows (round_of ws)))
 
-    pub says-wrong : (p : ℕ) → wrong p ≡ matched rows 0 (round_of ws) → given (wrong_at p) ≡ sheet_call ws rows
-    says-wrong p e = says (wrong p) e
+    pub says-wrong : (p : ℕ) → Err p ≡ matched rows 0 (round_of ws) → given (wrong_at p) ≡ sheet_call ws rows
+    says-wrong p e = says (Err p) e
 
-    pub says-right : (p : ℕ) → on p ≡ matched rows 0 (round_of ws) → p ≡ length rows → given right ≡ sheet_call ws rows
-    says-right p e z = rw (eq-eqb p (length rows) z) at (says (on p) e)
+    pub says-right : (p : ℕ) → Ok p ≡ matched rows 0 (round_of ws) → p ≡ length rows → given right ≡ sheet_call ws rows
+    says-right p e z = rw (eq-eqb p (length rows) z) at (says (Ok p) e)
 
-    pub says-longer : (p : ℕ) → on p ≡ matched rows 0 (round_of ws) → (p ≡ length rows → ⊥) → given (wrong_at p) ≡ sheet_call ws rows
-    says-longer p e n = rw (ne_eqb p (length rows) n) at (says (on p) e)
+    pub says-longer : (p : ℕ) → Ok p ≡ matched rows 0 (round_of ws) → (p ≡ length rows → ⊥) → given (wrong_at p) ≡ sheet_call ws rows
+    says-longer p e n = rw (ne_eqb p (length rows) n) at (says (Ok p) e)

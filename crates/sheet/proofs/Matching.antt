@@ -1,5 +1,5 @@
 -- Holding a list against wanted rows goes part by part, and from the first place on gives what the sheet says.
-use Prim.Native.Nat.{ℕ, suc, ◌≤◌, ◌<◌}
+use Prim.Native.Nat.{ℕ, suc, ◌+◌, ◌≤◌, ◌<◌}
 use mathlib.Core.Path.{◌≡◌, refl, ◌∙◌}
 use mathlib.Core.Bool.{Bool, true, false, cond}
 use mathlib.Core.List.{List, [], ◌∷◌, ◌++◌}
@@ -8,16 +8,17 @@ use lib.Dec.{eqb, ltb}
 use lib.ListN.{length, get_or, drop, drop_of_length-le}
 use lib.Seq.{drop-cons}
 use borrow.Author.Tests.{ltb-true, ltb-false, lt-ltb, le-ltb, eq-eqb, ne_eqb}
+use Rattle.std.specs.Prelude.{Result, Ok, Err}
 use Rattle.sheet.specs.Sheet.{Sheet, right, wrong_at, sheet_from, sheet_of}
-use Rattle.sheet.specs.Matching.{Match, on, wrong, matched}
+use Rattle.sheet.specs.Matching.{matched}
 
 -- ---- part by part
 
 module _ (rows : List ℕ) where
   -- what was found goes on behind it, and a wrong place stays the first
-  abbrev continued : Match → List ℕ → Match
-  continued (on q) ys = matched rows q ys
-  continued (wrong q) ys = wrong q
+  abbrev continued : Result ℕ ℕ → List ℕ → Result ℕ ℕ
+  continued (Ok q) ys = matched rows q ys
+  continued (Err q) ys = Err q
 
   matched_append : (xs ys : List ℕ) (p : ℕ) → matched rows p (xs ++ ys) ≡ continued (matched rows p xs) ys
   unfolding matched
@@ -25,46 +26,52 @@ module _ (rows : List ℕ) where
   matched_append (x ∷ xs) ys p = go (ltb p (length rows)) (eqb (get_or rows p 0) x) (matched_append xs ys (suc p))
     where
       go : (a b : Bool) → matched rows (suc p) (xs ++ ys) ≡ continued (matched rows (suc p) xs) ys
-          → cond a (cond b (matched rows (suc p) (xs ++ ys)) (wrong p)) (wrong p)
-          ≡ continued (cond a (cond b (matched rows (suc p) xs) (wrong p)) (wrong p)) ys
+          → cond a (cond b (matched rows (suc p) (xs ++ ys)) (Err p)) (Err p)
+          ≡ continued (cond a (cond b (matched rows (suc p) xs) (Err p)) (Err p)) ys
       go true true h = h
       go true false h = refl
       go false b h = refl
 
-  pub found_append : (xs ys : List ℕ) (p q : ℕ) → on q ≡ matched rows p xs → matched rows p (xs ++ ys) ≡ matched rows q ys
+  pub found_append : (xs ys : List ℕ) (p q : ℕ) → Ok q ≡ matched rows p xs → matched rows p (xs ++ ys) ≡ matched rows q ys
   found_append xs ys p q e = matched_append xs ys p ∙ rw (← e) refl
 
-  pub wrong_append : (xs ys : List ℕ) (p q : ℕ) → wrong q ≡ matched rows p xs → matched rows p (xs ++ ys) ≡ wrong q
+  pub wrong_append : (xs ys : List ℕ) (p q : ℕ) → Err q ≡ matched rows p xs → matched rows p (xs ++ ys) ≡ Err q
   wrong_append xs ys p q e = matched_append xs ys p ∙ rw (← e) refl
 
 -- ---- one place
 
-module _ (rows line : List ℕ) (at i : ℕ) (more : i < length line) where
-  pub place-ended : length rows ≤ at → matched rows at (drop i line) ≡ wrong at
+module _ (rows line : List ℕ) (start i : ℕ) where
+  -- the list has ended there, or another row stands there, or the one wanted
+  pub place-ended : i < length line → length rows ≡ start + i → matched rows (start + i) (drop i line) ≡ Err (length rows)
   unfolding matched
-  place-ended l = rw (drop-cons line i 0 more, le-ltb at (length rows) l) refl
+  place-ended more e = rw (drop-cons line i 0 more, le-ltb (start + i) (length rows) (omega arith), e) refl
 
-  pub place_other : at < length rows → (get_or rows at 0 ≡ get_or line i 0 → ⊥) → matched rows at (drop i line) ≡ wrong at
+  pub place_other : i < length line → start + i < length rows → (get_or rows (start + i) 0 ≡ get_or line i 0 → ⊥)
+      → matched rows (start + i) (drop i line) ≡ Err (start + i)
   unfolding matched
-  place_other l n = rw (drop-cons line i 0 more, lt-ltb at (length rows) l, ne_eqb (get_or rows at 0) (get_or line i 0) n) refl
+  place_other more l n = rw (drop-cons line i 0 more, lt-ltb (start + i) (length rows) l, ne_eqb (get_or rows (start + i) 0) (get_or line i 0) n) refl
 
-  pub place_found : at < length rows → get_or rows at 0 ≡ get_or line i 0 → matched rows at (drop i line) ≡ matched rows (suc at) (drop (suc i) line)
+  pub place_found : i < length line → start + i < length rows → get_or rows (start + i) 0 ≡ get_or line i 0
+      → matched rows (start + i) (drop i line) ≡ matched rows (start + (i + 1)) (drop (i + 1) line)
   unfolding matched
-  place_found l e = rw (drop-cons line i 0 more, lt-ltb at (length rows) l, eq-eqb (get_or rows at 0) (get_or line i 0) e) refl
+  place_found more l e =
+      let one : i + 1 ≡ suc i = omega arith in
+      let next : start + suc i ≡ suc (start + i) = omega arith in
+      rw (one, next, drop-cons line i 0 more, lt-ltb (start + i) (length rows) l, eq-eqb (get_or rows (start + i) 0) (get_or line i 0) e) refl
 
-pub places-end : (rows line : List ℕ) (at i : ℕ) → length line ≤ i → matched rows at (drop i line) ≡ on at
-unfolding matched
-places-end rows line at i l = rw (drop_of_length-le line {i = i} l) refl
+  pub places-end : length line ≤ i → matched rows (start + i) (drop i line) ≡ Ok (start + i)
+  unfolding matched
+  places-end l = rw (drop_of_length-le line {i = i} l) refl
 
 -- ---- the whole list
 
 -- what a match makes of the sheet: all wanted was found, and the list ends there or goes on
-abbrev pub finish : ℕ → Match → Sheet
-finish n (on q) = cond (eqb q n) right (wrong_at q)
-finish n (wrong q) = wrong_at q
+abbrev pub finish : ℕ → Result ℕ ℕ → Sheet
+finish n (Ok q) = cond (eqb q n) right (wrong_at q)
+finish n (Err q) = wrong_at q
 
 module _ (rows : List ℕ) where
-  -- the list goes on at p where nothing or something is wanted, or it has ended there
+  -- the list goes Ok at p where nothing or something is wanted, or it has ended there
   too_long : (p : ℕ) → p < length rows → finish (length rows) (matched rows p []) ≡ sheet_from p (drop p rows) []
   unfolding matched sheet_from
   too_long p h = rw (drop-cons rows p 0 h, ne_eqb p (length rows) (λ q. omega arith)) refl
@@ -76,7 +83,7 @@ module _ (rows : List ℕ) where
   goes_on v vs p h later = rw (drop-cons rows p 0 h, lt-ltb p (length rows) h) (go (eqb (get_or rows p 0) v) later)
     where
       go : (b : Bool) → finish (length rows) (matched rows (suc p) vs) ≡ sheet_from (suc p) (drop (suc p) rows) vs
-          → finish (length rows) (cond b (matched rows (suc p) vs) (wrong p)) ≡ cond b (sheet_from (suc p) (drop (suc p) rows) vs) (wrong_at p)
+          → finish (length rows) (cond b (matched rows (suc p) vs) (Err p)) ≡ cond b (sheet_from (suc p) (drop (suc p) rows) vs) (wrong_at p)
       go true e = e
       go false e = refl
 

@@ -1,14 +1,9 @@
 -- How the checker goes along a list: the rows wanted next are held against it, place by place.
-use Rattle.std.specs.Prelude.{ℕ, suc, cond, List, [], ◌∷◌, eqb, ltb, length, get_or}
+use Rattle.std.specs.Prelude.{ℕ, suc, cond, List, [], ◌∷◌, eqb, ltb, length, get_or, Result, Ok, Err}
 
--- all rows wanted stand there and the place behind them is this one; or this place is wrong
-pub data Match : Type 0 where
-  on : ℕ → Match
-  wrong : ℕ → Match
-
--- the rows wanted, held against a list from place p on
-unfoldable pub matched : List ℕ → ℕ → List ℕ → Match
-matched rows p [] = on p
+-- The rows wanted, held against a list from place p on: all stand there and the place behind them is this one; or this place is wrong.
+unfoldable pub matched : List ℕ → ℕ → List ℕ → Result ℕ ℕ
+matched rows p [] = Ok p
 matched rows p (v ∷ vs) =
     let later = matched rows (suc p) vs in
-    cond (ltb p (length rows)) (cond (eqb (get_or rows p 0) v) later (wrong p)) (wrong p)
+    cond (ltb p (length rows)) (cond (eqb (get_or rows p 0) v) later (Err p)) (Err p)

@@ -1,5 +1,6 @@
 -- Round sheets (02 §9): what the checker says of a list of row numbers.
-use Rattle.std.specs.Prelude.{ℕ, suc, ◌≡◌, Bool, false, cond, ◌||◌, List, [], ◌∷◌, eqb, ltb, length, take}
+use Rattle.std.specs.Prelude.{ℕ, suc, ◌≡◌, Bool, cond, List, [], ◌∷◌, eqb, ltb, length, take}
+use Rattle.std.specs.List.{list_any}
 use Rattle.answers.specs.Answer.{too_many, bad_weight, Answer, given, ◌gives◌, checked}
 use Rattle.spread.specs.Limits.{outside}
 use Rattle.spread.specs.Round.{round_of}
@@ -38,9 +39,8 @@ pub record FirstWrong (n : ℕ) (rows visits : List ℕ) : Type 0 where
   pub differ : take (suc n) rows ≡ take (suc n) visits → ⊥
 
 -- whether a weight is out of range
-unfoldable pub any_bad : List ℕ → Bool
-any_bad [] = false
-any_bad (w ∷ ws) = outside 1 heaviest_on_sheet w || any_bad ws
+abbrev pub any_bad : List ℕ → Bool
+any_bad = list_any (outside 1 heaviest_on_sheet)
 
 -- "Refusals: 6 for a weight out of range; 17 for more than 64 weights, before 6."
 unfoldable pub sheet_call : List ℕ → List ℕ → Answer Sheet

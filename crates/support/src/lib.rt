@@ -10,9 +10,7 @@ ghost use Rattle.rules.specs.Next.{next_call};
 ghost use Rattle.memory.specs.Memory.{on};
 ghost use Rattle.driver.specs.Entered.{entry, entered, put_bytes, next_bytes};
 
-use driver::fields::wrong_length;
-use driver::records::{sent, taken};
-use uplink::{NextAnswer, PutAnswer};
+use driver::fields::{told, wrong_length};
 
 // Adds a record. Answer: serial, number now waiting.
 #[unsafe(no_mangle)]
@@ -29,8 +27,10 @@ pub extern "C" fn plain_put(
     if answer.len() != 8 {
         return wrong_length();
     }
-    let told: PutAnswer = plain::put::put(state, slot, ticket, length, reference);
-    taken(answer, told)
+    told(
+        answer,
+        plain::put::put(state, slot, ticket, length, reference),
+    )
 }
 
 // Takes the next record to send off its queue. Answer: slot, ticket, length, reference, serial, 1 if this send started a visit else 0, terms taken.
@@ -41,6 +41,5 @@ pub extern "C" fn plain_next(state: &mut [u8], answer: &mut [u8]) -> u32
     if answer.len() != 28 {
         return wrong_length();
     }
-    let told: NextAnswer = plain::next::next(state);
-    sent(answer, told)
+    told(answer, plain::next::next(state))
 }

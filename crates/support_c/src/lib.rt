@@ -1,6 +1,6 @@
 // What the archive of support's entries for C exports: the functions of crate support, under their own names, and nothing else. include/plain.h declares them.
 //
-// As crate driver_c for crate driver: each calls the function of its name and states its contract again, word for word.
+// Twins, which the C interface needs, as crate driver_c's: each calls the function of its name and states its contract again, word for word.
 #![tactic(auto)]
 
 ghost use Rattle.std.specs.Prelude.{◌≡◌};

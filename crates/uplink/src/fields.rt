@@ -1,5 +1,7 @@
 // The fields of an answer as numbers, in document 01's order: the entries for C write them, and the command program prints them.
-ghost use Rattle.std.specs.Prelude.{◌≡◌, ℕ, cond, List, [], ◌∷◌, map};
+ghost use Rattle.std.specs.Prelude.{◌≡◌, ℕ, ◌/◌, ◌%◌, ◌^◌, cond, List, [], ◌∷◌, map};
+ghost use Rattle.std.specs.Int.{w64, cast_unsigned};
+ghost use Rattle.std.specs.Option.{option_map_or};
 ghost use Rattle.rules.specs.Listed.{entry_fields};
 ghost use Rattle.uplink.specs.Told.{entry_told};
 
@@ -36,6 +38,28 @@ impl Fields<1> for bool {
 
     fn fields(self) -> [u32; 1] {
         [u32::from(self)]
+    }
+}
+
+// A signed number: its 64 bits in two's complement, the lower half first.
+impl Fields<2> for i64 {
+    ghost numbers = { λ a. cast_unsigned w64 a % 2 ^ 32 ∷ cast_unsigned w64 a / 2 ^ 32 ∷ [] };
+
+    fn fields(self) -> [u32; 2] {
+        let bits = self.cast_unsigned();
+        [(bits % 0x1_0000_0000) as u32, (bits >> 32) as u32]
+    }
+}
+
+// Of a test: 1 and 0 if nothing is wrong, else 0 and the first wrong place.
+impl Fields<2> for Option<u32> {
+    ghost numbers = { λ a. option_map_or (λ place. 0 ∷ place ∷ []) a (1 ∷ 0 ∷ []) };
+
+    fn fields(self) -> [u32; 2] {
+        match self {
+            None => [1, 0],
+            Some(place) => [0, place],
+        }
     }
 }
 

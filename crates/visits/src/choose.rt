@@ -32,20 +32,28 @@ pub fn choose(state: &[u8], scan: Scan) -> Chosen
     requires { Chooses state.now scan }
     ensures { some result ≡ map in_chosen (chosen_of (state_of state.now)) }
 {
-    let order = load_order(state);
     if scan.visit != 0 {
-        return Chosen {
-            slot: usize::from(scan.visit) - 1,
-            started: 0,
-            terms: 0,
-            order,
-            scan,
-        };
+        return open_visit(state, scan);
     }
+    let order = load_order(state);
     if scan.mask != 0 {
         return first_visit(state, 0, order, scan);
     }
     jumped(state, order, scan)
+}
+
+// "If a visit is open, its slot is chosen."
+pub fn open_visit(state: &[u8], scan: Scan) -> Chosen
+    requires { Chooses state.now scan × (scan.visit ≡ 0 → ⊥) }
+    ensures { some result ≡ map in_chosen (chosen_of (state_of state.now)) }
+{
+    Chosen {
+        slot: usize::from(scan.visit) - 1,
+        started: 0,
+        terms: 0,
+        order: load_order(state),
+        scan,
+    }
 }
 
 // The terms up to the next column that has a row are taken in one jump: in this round, or through its end, after which the order is the rows' and position 1 has

@@ -1,16 +1,11 @@
--- A buffer of another length keeps all, a refusal has cleared it, and an answer's fields are its words.
-use Rattle.driver.proofs.EnteredLaws.{entered-kept, entered-refused, entered-given}
+-- A buffer of another length keeps all; else it shows what the call answers.
+use mathlib.Core.Path.{refl}
+use Rattle.uplink.specs.Told.{close_told}
+use Rattle.driver.proofs.EnteredLaws.{entered-kept, entered-told}
 use Rattle.driver.proofs.uplink_close.Goals as goal
 
 pub returns-then-answer-ne4 : goal.returns-then-answer-ne4
 returns-then-answer-ne4 c = rw c.wrong_length.ensures (entered-kept _ _ _ _ _ c.if-answer-ne4.true)
 
-pub returns-in-Closed : goal.returns-in-Closed
-returns-in-Closed c =
-    let told = c.in-Closed.is in
-    entered-given _ _ _ _ _ _ c.if-answer-ne4.false (rw told at c.close.ensures) c.give.ensures
-
-pub returns-in-Refused : goal.returns-in-Refused
-returns-in-Refused c =
-    let told = c.in-Refused.is in
-    entered-refused _ _ _ _ _ _ c.if-answer-ne4.false (rw told at c.close.ensures) c.refuse.ensures
+pub returns : goal.returns
+returns c = entered-told _ _ _ _ _ close_told _ (λ w. refl) (λ t e. (refl, refl)) c.if-answer-ne4.false c.close.ensures c.told.ensures

@@ -1,23 +1,22 @@
--- A buffer of another length keeps all, a refusal has cleared it, and an answer's fields are its words.
-use mathlib.Core.Path.{ap}
-use Rattle.driver.proofs.EnteredLaws.{entered-kept, entered-refused, entered-given}
+-- A buffer of another length keeps all; else it shows what the call answers.
+use mathlib.Core.Path.{◌≡◌, refl, ap}
+use Rattle.std.specs.Prelude.{ℕ, [], ◌∷◌, Option, None, Some}
+use Rattle.std.specs.Option.{option_map_or}
+use Rattle.sheet.specs.Sheet.{sheet_fields}
+use Rattle.sheet.specs.Told.{place_told, sheet_told}
+use Rattle.driver.specs.Words.{words}
 use Rattle.driver.specs.Entered.{stateless}
+use Rattle.driver.proofs.EnteredLaws.{entered-kept, entered-told}
 use Rattle.driver.proofs.uplink_sheet.Goals as goal
 
 pub returns-then-answer-ne8 : goal.returns-then-answer-ne8
 returns-then-answer-ne8 c = rw c.wrong_length.ensures (entered-kept _ _ _ _ _ c.if-answer-ne8.true)
 
-pub returns-in-Right : goal.returns-in-Right
-returns-in-Right c =
-    let told = c.in-Right.is in
-    entered-given _ _ _ _ _ _ c.if-answer-ne8.false (ap stateless (rw told at c.check.ensures)) c.give.ensures
+same : (wrong : Option ℕ) → sheet_fields (place_told wrong) ≡ option_map_or (λ (p : ℕ). 0 ∷ p ∷ []) wrong (1 ∷ 0 ∷ [])
+same None = refl
+same (Some p) = refl
 
-pub returns-in-WrongAt : goal.returns-in-WrongAt
-returns-in-WrongAt c =
-    let told = c.in-WrongAt.is in
-    entered-given _ _ _ _ _ _ c.if-answer-ne8.false (ap stateless (rw told at c.check.ensures)) c.give-in-WrongAt.ensures
-
-pub returns-in-Refused : goal.returns-in-Refused
-returns-in-Refused c =
-    let told = c.in-Refused.is in
-    entered-refused _ _ _ _ _ _ c.if-answer-ne8.false (ap stateless (rw told at c.check.ensures)) c.refuse.ensures
+pub returns : goal.returns
+returns c =
+    entered-told _ _ _ _ _ sheet_told _ (λ w. refl) (λ wrong e. (refl, ap words (same wrong))) c.if-answer-ne8.false (ap stateless c.check.ensures)
+    c.told.ensures

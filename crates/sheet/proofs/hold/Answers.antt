@@ -1,41 +1,23 @@
--- What is still wanted, from the place reached, gives what was wanted at first.
-use mathlib.Core.Path.{refl, sym, ◌∙◌}
-use native.Mathlib.Numerals.{add-one}
+-- What is still wanted, from the place reached, gives what was wanted at first; where both have not ended, the list has, and so it is too short.
+use mathlib.Core.Path.{◌≡◌, refl, sym, ◌∙◌}
 use native.Mathlib.Omega.{arith}
 use Rattle.sheet.proofs.Matching.{place-ended, place_other, place_found, places-end}
 use Rattle.sheet.proofs.hold.Goals as goal
 
-pub loop-i-init : goal.loop-i-init
-loop-i-init c = (omega arith, refl)
-
-pub returns-then-rows-at : goal.returns-then-rows-at
-returns-then-rows-at c =
-    let a = c.args in
-    let turn = c.loop-i in
-    sym (turn.invariant.1 ∙ place-ended a.rows.now a.line.now turn.at turn.i c.loop-i-test.true c.if-rows-at.true)
-
-pub returns-then-rows-at-2 : goal.returns-then-rows-at-2
-returns-then-rows-at-2 c =
-    let a = c.args in
-    let l = c.loop-i in
+pub returns-then-rows-start-clause-found : goal.returns-then-rows-start-clause-found
+returns-then-rows-start-clause-found c =
     sym
-    (l.invariant.1
-    ∙ place_other a.rows.now a.line.now l.at l.i c.loop-i-test.true
-    c.if-rows-at.false (λ e. c.if-rows-at-2.true (e ∙ sym c.wide.ensures)))
+    (sym c.loop-i.invariant
+    ∙ place_other _ _ _ c.loop-i.i (omega arith) (omega arith) (λ e. c.if-rows-start.true (e ∙ sym c.from.ensures)))
 
 pub loop-i-preserved : goal.loop-i-preserved
 loop-i-preserved c =
-    let a = c.args in
-    let l = c.loop-i in (
-      omega arith,
-      rw (add-one l.at, add-one l.i)
-          (l.invariant.1
-          ∙ place_found a.rows.now a.line.now l.at l.i c.loop-i-test.true
-          c.if-rows-at.false (c.if-rows-at-2.false ∙ c.wide.ensures)),
-    )
+    sym (place_found _ _ _ c.loop-i.i (omega arith) (omega arith) (c.if-rows-start.false ∙ c.from.ensures)) ∙ c.loop-i.invariant
 
-pub returns : goal.returns
-returns c =
-    let a = c.args in
-    let l = c.loop-i in
-    sym (l.invariant.1 ∙ places-end a.rows.now a.line.now l.at l.i c.loop-i-test.false)
+pub returns-then-both-line-clause-found : goal.returns-then-both-line-clause-found
+returns-then-both-line-clause-found c = sym (sym c.loop-i.invariant ∙ place-ended _ _ _ c.loop-i.i (omega arith) (omega arith))
+
+pub returns-clause-found : goal.returns-clause-found
+returns-clause-found c =
+    let all : c.min-both.result ≡ c.loop-i.i = omega arith in
+    sym (sym c.loop-i.invariant ∙ places-end _ _ _ c.loop-i.i (omega arith) ∙ rw all refl)

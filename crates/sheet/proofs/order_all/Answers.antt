@@ -1,25 +1,15 @@
--- The union so far and the weights that are left have together the order of all.
-use native.Mathlib.Numerals.{add-one}
+-- The order of the union is that of all.
+use mathlib.Core.Path.{◌≡◌, ap}
 use native.Mathlib.Omega.{arith}
-use lib.ListN.{get_or}
-use Rattle.bits.proofs.OrderLaws.{order-zero, order_or}
-use Rattle.sheet.proofs.WeightLaws.{order-next, order-end}
+use borrow.Author.Rules.{rules}
+use Rattle.std.specs.Int.Bits.{bit_or}
+use Rattle.std.specs.List.{fold}
+use Rattle.bits.specs.Order.{order}
+use Rattle.bits.proofs.OrderLaws.{order-zero}
+use Rattle.sheet.proofs.WeightLaws.{order-union}
 use Rattle.sheet.proofs.order_all.Goals as goal
-
-pub loop-r-init : goal.loop-r-init
-loop-r-init c = (omega arith, omega (arith, order-zero))
-
-pub loop-r-preserved : goal.loop-r-preserved
-loop-r-preserved c =
-    let ws = c.args.weights.now in
-    let turn = c.loop-r in (
-      omega arith,
-      rw (add-one turn.r)
-          (omega (arith, turn.invariant.1, order_or turn.union (get_or ws turn.r 0), order-next ws turn.r c.loop-r-test.true)),
-    )
 
 pub returns : goal.returns
 returns c =
-    let ws = c.args.weights.now in
-    let turn = c.loop-r in
-    omega (arith, c.order_of.ensures, turn.invariant.1, order-end ws turn.r c.loop-r-test.false)
+    let union : c.fold.result ≡ fold bit_or 0 c.args.weights.now = search rules in
+    omega (arith, c.order_of.ensures, ap order union, order-union 0 c.args.weights.now, order-zero)

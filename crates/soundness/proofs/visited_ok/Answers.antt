@@ -8,9 +8,9 @@ use Rattle.soundness.proofs.visited_ok.Goals as goal
 pub overflow_add-first : goal.overflow_add-first
 overflow_add-first c = omega (arith, first-within c.args.state.now c.args.v slots (omega arith))
 
-pub read_u16-length-requires : goal.read_u16-length-requires
-read_u16-length-requires c = omega (arith, first-within c.args.state.now c.args.v slots (omega arith))
+pub read-length-requires : goal.read-length-requires
+read-length-requires c = omega (arith, first-within c.args.state.now c.args.v slots (omega arith))
 
 pub returns : goal.returns
-returns c = visited-law _ _ _ _ _ _ _ _ c.first_of-first.ensures c.read_u16-length.ensures c.cost_of-cost.ensures
-    c.read_u16-deficit.ensures c.load_mask-mask.ensures c.in_mask-listed.ensures
+returns c = visited-law _ _ _ _ _ _ _ _ c.first_of-first.ensures c.read-length.ensures c.cost_of-cost.ensures
+    c.read-deficit.ensures c.load_mask-mask.ensures c.in_mask-listed.ensures

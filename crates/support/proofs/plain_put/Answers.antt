@@ -1,4 +1,6 @@
 -- A buffer of another length keeps all; else it shows what the call answers.
+use mathlib.Core.Path.{refl}
+use Rattle.uplink.specs.Told.{put_told}
 use Rattle.driver.proofs.EnteredLaws.{entered-kept, entered-told}
 use Rattle.support.proofs.plain_put.Goals as goal
 
@@ -6,4 +8,4 @@ pub returns-then-answer-ne8 : goal.returns-then-answer-ne8
 returns-then-answer-ne8 c = rw c.wrong_length.ensures (entered-kept _ _ _ _ _ c.if-answer-ne8.true)
 
 pub returns : goal.returns
-returns c = entered-told _ _ _ _ _ _ c.if-answer-ne8.false c.put-told.ensures c.taken.ensures
+returns c = entered-told _ _ _ _ _ put_told _ (λ w. refl) (λ t e. (refl, refl)) c.if-answer-ne8.false c.put.ensures c.told.ensures

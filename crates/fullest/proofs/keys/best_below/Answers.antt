@@ -15,4 +15,4 @@ loop-s-preserved c = best_turn _ _ _ _ _ _ _ c.loop-s.invariant c.key_of-x.ensur
 pub returns : goal.returns
 returns c =
     let e : c.loop-s.s ≡ 64 = omega arith in
-    best_slot c.args.state.now _ _ (λ i. (c.type_inv.state i).fits) (rw e at c.loop-s.invariant)
+    best_slot c.args.state.now _ _ c.fits-state (rw e at c.loop-s.invariant)

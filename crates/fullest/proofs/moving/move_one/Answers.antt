@@ -9,7 +9,7 @@ use Rattle.fullest.proofs.moving.move_one.Goals as goal
 
 pub put_in-requires : goal.put_in-requires
 put_in-requires c =
-    (c.requires.0, omega arith, c.requires.2, rw c.without-line.ensures.1 c.requires.3.rest)
+    (omega arith, c.requires.1, rw c.without-line.ensures.1 c.requires.2.rest)
 
 pub returns-then-least-x : goal.returns-then-least-x
 returns-then-least-x c =
@@ -22,11 +22,8 @@ returns-then-len-eq-LISTED c =
     c.without-line.ensures.1 c.key_at-x.ensures c.least-least.ensures c.if-least-x.false (omega arith)
 
 pub next_key-y-requires : goal.next_key-y-requires
-next_key-y-requires c = (
-  c.requires.0,
-  λ few. next-alone (bytes_at c.args.state.now) c.args.slot (slots_from c.args.state.now 0 c.args.n) c.without-line.result c.key_at-x.result c.least-least.result
-      c.without-line.ensures.1 c.key_at-x.ensures c.least-least.ensures c.requires.3 (omega (arith, slots_length c.args.state.now 0 c.args.n)) c.if-least-x.false,
-)
+next_key-y-requires c = λ few. next-alone (bytes_at c.args.state.now) c.args.slot (slots_from c.args.state.now 0 c.args.n) c.without-line.result c.key_at-x.result c.least-least.result
+    c.without-line.ensures.1 c.key_at-x.ensures c.least-least.ensures c.requires.2 (omega (arith, slots_length c.args.state.now 0 c.args.n)) c.if-least-x.false
 
 pub returns : goal.returns
 returns c =

@@ -12,7 +12,7 @@ use Rattle.memory.proofs.heads.store_head.Goals as goal
 
 pub shape_of-state : goal.shape_of-state
 shape_of-state c =
-    simp length-set (omega (arith, c.write_u32.auto.b, c.write_u16.auto.b, c.write_u16-2.auto.b, c.write_u16-3.auto.b))
+    simp length-set (omega (arith, c.write.auto.b, c.write-2.auto.b, c.write-3.auto.b, c.write-4.auto.b))
 
 pub returns : goal.returns
 returns c =
@@ -36,4 +36,4 @@ returns c =
       records = rw records (F.slot c.args.slot).records;
     } in
     channel-stored c.args.slot x F memory c.requires.1 fits records
-    (rw same at c.write_u32.ensures) (rw same at c.write_u16.ensures) (rw same at c.write_u16-2.ensures) (rw same at c.write_u16-3.ensures) (rw same refl)
+    (rw same at c.write.ensures) (rw same at c.write-2.ensures) (rw same at c.write-3.ensures) (rw same at c.write-4.ensures) (rw same refl)

@@ -11,13 +11,13 @@ use Rattle.memory.proofs.point.store_scan.Goals as goal
 
 -- src/point.rt:45:5
 pub bounds-state-845 : goal.bounds-state-845
-bounds-state-845 c = omega (arith, c.write_u64.auto.b, simp length-set at c.write_u64.auto.b, c.write_u16.auto.b)
+bounds-state-845 c = omega (arith, c.write-2.auto.b, simp length-set at c.write-2.auto.b, c.write.auto.b)
 
 -- src/point.rt:36:1
 pub shape_of-state : goal.shape_of-state
 shape_of-state c =
-    let late = simp length-set at c.write_u64.auto.b in
-    let soon = c.write_u16.auto.b in
+    let late = simp length-set at c.write-2.auto.b in
+    let soon = c.write.auto.b in
     simp length-set (omega arith)
 
 -- src/point.rt:36:1
@@ -30,5 +30,5 @@ returns c s p F entry same =
     let column : p.column < 256 = omega (arith, fits, ap (λ (x : Scan). x.column) same) in
     let mask : mask_of p.to_visit < 256 ^ 8 = omega (arith, fits, ap (λ (x : Scan). x.mask) same) in
     let visit : visit_number p.visit < 256 = omega (arith, fits, ap (λ (x : Scan). x.visit) same) in
-    rw (c.write_u64.ensures, c.write_u16.ensures, same, entry)
+    rw (c.write-2.ensures, c.write.ensures, same, entry)
     (scan-put F p position column mask visit)

@@ -5,4 +5,4 @@ use Rattle.memory.proofs.records.drop_record.Goals as goal
 pub returns : goal.returns
 returns c =
     let a = c.args in
-    drop-steps a.state.now a.last a.place c.close_lines.ensures c.write_u16.ensures c.close_lines-2.ensures c.write_u32.ensures
+    drop-steps a.state.now a.last a.place c.close_lines.ensures c.write.ensures c.close_lines-2.ensures c.write-2.ensures

@@ -5,5 +5,5 @@ use Rattle.memory.proofs.records.put_record.Goals as goal
 pub returns : goal.returns
 returns c =
     let a = c.args in
-    put-steps a.state.now a.last a.place a.length a.reference c.open_lines.ensures c.write_u16.ensures c.open_lines-2.ensures
-    c.write_u32.ensures
+    put-steps a.state.now a.last a.place a.length a.reference c.open_lines.ensures c.write.ensures c.open_lines-2.ensures
+    c.write-2.ensures

@@ -5,4 +5,4 @@ use Rattle.memory.proofs.search.can_open.Goals as goal
 
 pub returns : goal.returns
 unfolding channel_at
-returns c = rw (free-kind, c.read_u32-ticket.ensures)
+returns c = rw (free-kind, c.read-ticket.ensures)

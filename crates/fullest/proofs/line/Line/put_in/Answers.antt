@@ -20,7 +20,7 @@ loop-k-preserved c =
     let size : length before.places ≡ 6 = search rules in
     let size-now : length turn.self-inside.places ≡ 6 = search rules in
     let few : before.count ≤ 5 = omega (arith, ap length c.self.view_is, length-take-le before.count before.places (omega arith)) in
-    let falls : FallingLine f before.count before.places = line-falls f before.places c.args.self.now before.count size few c.self.view_is c.requires.3 in
+    let falls : FallingLine f before.count before.places = line-falls f before.places c.args.self.now before.count size few c.self.view_is c.requires.2 in
     let here = turn.invariant.2 turn.k (omega arith) in
     let low : get_or turn.self-inside.places turn.k 0 < 64 = omega (arith, here, falls.slots turn.k c.loop-k-test.true) in (
       turn.invariant.0,
@@ -36,7 +36,7 @@ returns c =
     let before = c.self.inside in
     let size : length before.places ≡ 6 = search rules in
     let few : before.count ≤ 5 = omega (arith, ap length c.self.view_is, length-take-le before.count before.places (omega arith)) in
-    let falls : FallingLine f before.count before.places = line-falls f before.places c.args.self.now before.count size few c.self.view_is c.requires.3 in
+    let falls : FallingLine f before.count before.places = line-falls f before.places c.args.self.now before.count size few c.self.view_is c.requires.2 in
     c.push.ensures
     ∙ rw turn.invariant.0 (in_end f before.places before.count size few falls _ turn.self-inside.places turn.k turn.held c.loop-k-test.false turn.auto.k-end turn.invariant.3)
     ∙ ap (put_in (key f) c.args.slot) c.self.view_is
