@@ -1,21 +1,19 @@
--- The first bytes of the run have come down by one, `done` of them; each turn moves the byte behind them.
-use mathlib.Core.Path.{◌≡◌, refl, sym}
+-- The first k bytes of the run have come down by one; each turn moves the byte behind them.
+use mathlib.Core.Path.{◌≡◌, sym}
 use native.Mathlib.Omega.{arith}
-use borrow.Author.Rules.{rules}
-use lib.ListN.{length-set}
 use Rattle.octets.proofs.SlideLaws.{slid-none, slid-down-turn}
 use Rattle.octets.proofs.slide.down_by_one.Goals as goal
 
-pub loop-done-init : goal.loop-done-init
-loop-done-init c = (search rules, refl, sym (slid-none _ _ _))
+pub loop-k-init : goal.loop-k-init
+loop-k-init c = sym (slid-none _ _ _)
 
-pub loop-done-preserved : goal.loop-done-preserved
-loop-done-preserved c =
-    let l = c.loop-done in
-    (search rules, simp length-set (search rules), rw l.invariant.2 (slid-down-turn _ l.done _ (omega arith)))
+pub loop-k-preserved : goal.loop-k-preserved
+loop-k-preserved c =
+    let l = c.loop-k in
+    rw l.invariant (slid-down-turn c.args.i l.k c.args.b.now (omega (arith, c.loop-k-test.true, c.requires)))
 
 pub returns : goal.returns
 returns c =
-    let l = c.loop-done in
-    let e : l.done ≡ c.args.n = omega arith in
-    rw e at l.invariant.2
+    let l = c.loop-k in
+    let e : l.k ≡ c.args.n = omega (arith, c.loop-k-test.false, l.auto.k-end) in
+    rw e at l.invariant
