@@ -1,7 +1,7 @@
--- Shifting right by the slot halves the mask so often.
+-- Shifting right by the place halves the number so often.
 use mathlib.Core.Path.{refl}
 use Rattle.bits.specs.Bit.{bit}
-use Rattle.plain.proofs.list.mark_of.Goals as goal
+use Rattle.plain.proofs.matrix.bit_at.Goals as goal
 
 pub returns : goal.returns
 unfolding bit
