@@ -12,17 +12,17 @@ use Rattle.uplink.proofs.Named.{ticket_is, head-held}
 use Rattle.uplink.proofs.Opening.{opened-empty, opened-ticket, open_bad-weight, open_none-free, open_given}
 use Rattle.uplink.proofs.open.open_in.Goals as goal
 
-pub returns-then-bad_weight : goal.returns-then-bad_weight
-returns-then-bad_weight c =
+pub returns-then-outside : goal.returns-then-outside
+returns-then-outside c =
     let a = c.args in
-    open_bad-weight a.state.now a.weight c.requires.1 (sym c.bad_weight.ensures ∙ c.if-bad_weight.true)
+    open_bad-weight a.state.now a.weight c.requires.1 (sym c.outside.ensures ∙ c.if-outside.true)
 
 pub lowest_of-slot-requires : goal.lowest_of-slot-requires
 lowest_of-slot-requires c = holds-size (sound-holds _ c.requires.0)
 
 pub returns-then-slot-ge-SLOTS : goal.returns-then-slot-ge-SLOTS
 returns-then-slot-ge-SLOTS c =
-    let weighed : outside 1 heaviest c.args.weight ≡ false = sym c.bad_weight.ensures ∙ c.if-bad_weight.false in
+    let weighed : outside 1 heaviest c.args.weight ≡ false = sym c.outside.ensures ∙ c.if-outside.false in
     let a = c.args in
     open_none-free a.state.now a.weight c.requires.1 weighed c.lowest_of-slot.result c.lowest_of-slot.ensures c.if-slot-ge-SLOTS.true
 
@@ -40,7 +40,7 @@ overflow_add-ticket c =
 
 pub overflow_cast-weight : goal.overflow_cast-weight
 overflow_cast-weight c =
-    let weighed : outside 1 heaviest c.args.weight ≡ false = sym c.bad_weight.ensures ∙ c.if-bad_weight.false in
+    let weighed : outside 1 heaviest c.args.weight ≡ false = sym c.outside.ensures ∙ c.if-outside.false in
     let low : c.args.weight ≤ heaviest = (between 1 heaviest _ weighed).1 in
     record { fits = lt_of_le_of_lt low (omega arith) }
 
@@ -52,7 +52,7 @@ store_head-requires c = (
 
 pub returns : goal.returns
 returns c =
-    let weighed : outside 1 heaviest c.args.weight ≡ false = sym c.bad_weight.ensures ∙ c.if-bad_weight.false in
+    let weighed : outside 1 heaviest c.args.weight ≡ false = sym c.outside.ensures ∙ c.if-outside.false in
     let loaded : HeadIn (state_of c.args.state.now) c.lowest_of-slot.result c.load_head-head.result = c.load_head-head.ensures ∙ head-held c.args.state.now (sound-holds _ c.requires.0) c.lowest_of-slot.result c.if-slot-ge-SLOTS.false in
     let H = sound-holds c.args.state.now c.requires.0 in
     let low = c.lowest_of-slot in
