@@ -9,7 +9,7 @@ use Rattle.answers.specs.Answer.{given, number}
 use Rattle.spread.specs.Sequence.{term}
 use Rattle.spread.specs.Visits.{column_at}
 use Rattle.spread.specs.Round.{order_all, rows_with, visits_from, round_of}
-use Rattle.sheet.specs.Sheet.{right, wrong_at, sheet_from, sheet_of, any_bad, sheet_call}
+use Rattle.sheet.specs.Sheet.{right, wrong_at, sheet_from, sheet_of, sheet_call}
 
 -- document 01, case 5: weights 1, 4, 8, 3, "joined so"
 case_five : sheet_call (1 ∷ 4 ∷ 8 ∷ 3 ∷ []) (2 ∷ 1 ∷ 2 ∷ 3 ∷ 2 ∷ 1 ∷ 2 ∷ 0 ∷ 3 ∷ 2 ∷ 1 ∷ 2 ∷ 3 ∷ 2 ∷ 1 ∷ 2 ∷ []) ≡ given right

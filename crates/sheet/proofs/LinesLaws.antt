@@ -1,6 +1,6 @@
 -- A row is written at the next place of its column's line; the place is kept if the row stands in the column. So the line is the column, and the lines along a
 -- round are its visits.
-use Prim.Native.Nat.{ℕ, zero, suc, ◌+◌, ◌-◌, ◌^◌, ◌≤◌, ◌<◌}
+use Prim.Native.Nat.{ℕ, suc, ◌+◌, ◌-◌, ◌^◌, ◌≤◌, ◌<◌}
 use mathlib.Core.Path.{◌≡◌, refl, sym, ◌∙◌}
 use mathlib.Core.Logic.{◌⊎◌, inl, inr}
 use mathlib.Core.List.{List, [], ◌∷◌, ◌++◌, append_assoc, append-nil}
@@ -9,11 +9,7 @@ use native.Mathlib.Omega.{arith}
 use lib.Dec.{eqb}
 use lib.ListN.{length, get_or, take, drop, set, drop_of_length-le}
 use lib.Seq.{drop-cons, take-set-le, take-suc-set}
-use Rattle.std.specs.Prelude.{Result, Ok, Err}
-use Rattle.std.specs.Array.{IsFromFnResultFrom}
-use Rattle.std.specs.Fn.{Called}
-use denote.Param.Members.{Mut}
-use Rattle.lists.proofs.SlotsLaws.{if_eq}
+use Rattle.std.specs.Prelude.{Ok, Err}
 use Rattle.lists.specs.Slots.{keep_if}
 use Rattle.bits.specs.Bit.{bit}
 use Rattle.bits.proofs.BitLaws.{bit-cases}
@@ -75,15 +71,3 @@ module _ (k p at : ℕ) (rows ws line : List ℕ) (h : 0 < p) (l : p < 2 ^ k) (i
 pub round-end : (k p at : ℕ) (rows ws : List ℕ) → 2 ^ k ≤ p → matched rows at (left k ws p) ≡ Ok at
 unfolding visits_from matched
 round-end k p at rows ws h = let none : 2 ^ k - p ≡ 0 = omega arith in rw none refl
-
--- ---- what an array is made of
-
--- what holds of each call at an index and what it gave, where no call changes the closure, holds of each element
-pub made-same : {F B : Type 0} (g : Mut F (ℕ × Unit {0}) B) (P : ℕ → B → Type 0) (f : F)
-    → ((i : ℕ) (y : B) (q : F) → Called g f (i, tt) y q → P i y × (q ≡ f))
-    → (ys : List B) (i n : ℕ) → IsFromFnResultFrom g f ys i n → (j : ℕ) (e : B) → i ≤ j → j < i + n → P j (get_or ys j e)
-made-same g P f step ys i zero made j e l h = absurd (omega arith)
-made-same g P f step ys i (suc n) (q, y, at, call, rest) j e l h =
-    let (p, same) = step i y q call in
-    if_eq j i (λ s. rw (s, at.1 e) p)
-    (λ s. made-same g P f step ys (i + 1) n (rw same at rest) j e (omega arith) (omega arith))

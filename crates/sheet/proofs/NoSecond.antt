@@ -1,10 +1,9 @@
 -- An answer of the code is told from each other one by what it says, so the contract leaves room for no second answer.
 use Prim.Native.Nat.{ℕ}
-use mathlib.Core.Path.{◌≡◌, refl, sym, ap}
+use mathlib.Core.Path.{◌≡◌, refl, ap}
 use Rattle.std.specs.Prelude.{Option, Some, None, Result}
 use Rattle.answers.proofs.NoSecond.{mapped-once}
 use Rattle.answers.specs.declared.Refusal.{Refusal}
-use Rattle.sheet.specs.Sheet.{Sheet, right, wrong_at}
 use Rattle.sheet.specs.Told.{place_told, sheet_told}
 
 place_told-once : (a b : Option ℕ) → place_told a ≡ place_told b → a ≡ b

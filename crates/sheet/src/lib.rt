@@ -5,7 +5,7 @@
 // never by rows that are not visited. Nothing is allocated, and a list may have any length and any numbers.
 #![tactic(auto)]
 
-ghost use Rattle.std.specs.Prelude.{◌≡◌, ◌≤◌, length};
+ghost use Rattle.std.specs.Prelude.{◌≡◌, ◌≤◌, length, IfOk};
 ghost use Rattle.spread.specs.Round.{order_all, round_of};
 ghost use Rattle.sheet.specs.Sheet.{rows_most, columns_on_sheet, any_bad, sheet_call};
 ghost use Rattle.sheet.specs.Lines.{Laid};
@@ -17,7 +17,6 @@ use bits::order_of;
 use line::Line;
 use spread::jump::column_at;
 use spread::outside;
-use std::array;
 
 mod line; // line.rt: the rows of one column
 
@@ -44,24 +43,32 @@ fn order_all(weights: &[u32]) -> u32
 
 // A line held against the list from a place on: the place behind it, or the first wrong place.
 fn hold(line: &[u8], rows: &[u32], start: usize) -> Result<usize, usize>
-    ensures { result ≡ matched rows.now start line.now }
+    requires { start ≤ length rows.now }
+    ensures found { result ≡ matched rows.now start line.now }
+    ensures within { IfOk result (λ next. next ≤ length rows.now) }
 {
-    let mut at = start;
-    for row in line {
-        if rows.len() <= at || rows[at] != u32::from(*row) {
-            return Err(at);
+    let both = line.len().min(rows.len() - start);
+    for i in 0..both {
+        if rows[start + i] != u32::from(line[i]) {
+            return Err(start + i);
         }
-        at += 1;
     }
-    Ok(at)
+    if both < line.len() {
+        return Err(rows.len());
+    }
+    Ok(start + both)
 }
 
-// The lines of all columns.
-fn lay(weights: &[u32]) -> [Line; COLUMNS]
-    requires { length weights.now ≤ rows_most }
-    ensures { Laid weights.now result }
+// The lines of the first k columns.
+fn lay(weights: &[u32], k: u32) -> [Line; COLUMNS]
+    requires { (length weights.now ≤ rows_most) × (k ≤ columns_on_sheet) }
+    ensures { Laid weights.now result k }
 {
-    array::from_fn(|column| Line::of(weights, column as u32))
+    let mut lines = [Line::new(); COLUMNS];
+    for column in 0..k {
+        lines[column as usize].lay(weights, column);
+    }
+    lines
 }
 
 // The visits of a round of these weights held against the list.
@@ -69,8 +76,8 @@ fn round(weights: &[u32], rows: &[u32]) -> Result<usize, usize>
     requires { (length weights.now ≤ rows_most) × (order_all weights.now ≤ columns_on_sheet) }
     ensures { result ≡ matched rows.now 0 (round_of weights.now) }
 {
-    let lines = lay(weights);
     let k = order_all(weights);
+    let lines = lay(weights, k);
     let mut at = 0;
     for position in 1..1 << k {
         at = hold(lines[column_at(k, position) as usize].rows(), rows, at)?;

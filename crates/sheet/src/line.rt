@@ -14,18 +14,25 @@ pub struct Line {
 }
 
 impl Line {
-    // The line of a column of rows with these weights. Each row is written at the next place, which is kept if the row stands in the column.
-    pub fn of(weights: &[u32], column: u32) -> Line
+    // A line without rows.
+    pub fn new() -> Line {
+        Line {
+            rows: [0; ROWS],
+            count: 0,
+        }
+    }
+
+    // Lays the column of rows with these weights. Each row is written at the next place, which is kept if the row stands in the column.
+    pub fn lay(&mut self, weights: &[u32], column: u32)
         requires { (length weights.now ≤ rows_most) × (column < columns_on_sheet) }
-        ensures { take result.count result.rows ≡ rows_with column 0 weights.now }
+        ensures { take self.new.count self.new.rows ≡ rows_with column 0 weights.now }
     {
-        let mut rows = [0; ROWS];
         let mut count = 0;
         for (row, weight) in weights.iter().enumerate() {
-            rows[count] = row as u8;
+            self.rows[count] = row as u8;
             count += in_column(*weight, column);
         }
-        Line { rows, count }
+        self.count = count;
     }
 
     // Its rows.

@@ -100,7 +100,7 @@ pub fn send(state: &mut [u8], chosen: Chosen) -> Sent
     let serial = head_serial(state, slot, head.serial);
     let cost = cost_of(first.length);
     let paid = paying(head, chosen.started, cost);
-    settle(state, slot, place, paid, chosen.order, chosen.scan);
+    settle(state, chosen, place, paid);
     Sent {
         slot: slot as u32,
         ticket: head.ticket,

@@ -13,54 +13,48 @@ ghost use Rattle.memory.specs.Reading.{first_at, row_count_at, rows_at};
 ghost use Rattle.memory.specs.Head.{head_of};
 ghost use Rattle.memory.specs.Edits.{row_gone};
 ghost use Rattle.memory.specs.Fits.{Fits};
-ghost use Rattle.visits.specs.Settle.{Settles, pointed, taken, Settling, rowless, unordered};
+ghost use Rattle.visits.specs.Settle.{Settles, pointed, Settling, rowless, unordered};
 
+use super::choose::Chosen;
 use memory::heads::{Head, store_head, waiting_of};
 use memory::point::{Scan, store_order, store_scan};
 use memory::records::{load_record, take_record};
 use memory::rows::leave_row;
 use rules::cost_of;
 
-// The oldest record of the slot leaves its place, and the visit is settled by what still waits, but for the order. The head has paid; the scan point has the
-// visit open.
-pub fn settle(state: &mut [u8], slot: usize, place: usize, head: Head, order: u8, scan: Scan)
-    requires { Settles state.old slot head order scan × (place ≡ first_at state.old slot) }
-    ensures { (z : Settles state.old slot head order scan)
-        → state.new ≡ bytes_of (unordered z.rest (pointed z) slot z.channel) }
+// The oldest record of the slot chosen leaves its place, and the visit is settled by what still waits, but for the order. The head has paid; the scan point chosen
+// has the visit open. (The head is not stored yet when the record leaves.)
+pub fn settle(state: &mut [u8], chosen: Chosen, place: usize, head: Head)
+    requires { Settles state.old chosen.slot head chosen.order chosen.scan × (place ≡ first_at state.old chosen.slot) }
+    ensures { (z : Settles state.old chosen.slot head chosen.order chosen.scan)
+        → state.new ≡ bytes_of (unordered z.rest (pointed z) chosen.slot z.channel) }
 {
-    record_gone(state, slot, place, head, order, scan);
-    visit_settled(state, slot, place, head, scan);
-}
-
-// The order and the scan point are stored, and the record leaves its place. (The head is not stored yet.)
-fn record_gone(state: &mut [u8], slot: usize, place: usize, head: Head, order: u8, scan: Scan)
-    requires { Settles state.old slot head order scan × (place ≡ first_at state.old slot) }
-    ensures { (z : Settles state.old slot head order scan) → state.new ≡ bytes_of (taken z) }
-{
-    store_order(state, order);
-    store_scan(state, scan);
-    take_record(state, slot, place);
+    store_order(state, chosen.order);
+    store_scan(state, chosen.scan);
+    take_record(state, chosen.slot, place);
+    visit_settled(state, chosen, place, head);
 }
 
 // The visit goes on or ends, by what still waits.
-fn visit_settled(state: &mut [u8], slot: usize, place: usize, head: Head, scan: Scan)
-    requires { Settling state.old slot head scan × (place ≡ first_at state.old slot) }
-    ensures { (z : Settling state.old slot head scan)
-        → state.new ≡ bytes_of (unordered z.channel.waiting z.state slot z.channel) }
+fn visit_settled(state: &mut [u8], chosen: Chosen, place: usize, head: Head)
+    requires { Settling state.old chosen.slot head chosen.scan × (place ≡ first_at state.old chosen.slot) }
+    ensures { (z : Settling state.old chosen.slot head chosen.scan)
+        → state.new ≡ bytes_of (unordered z.channel.waiting z.state chosen.slot z.channel) }
 {
-    if waiting_of(state, slot) == 0 {
-        row_left(state, slot, head, scan);
-        return;
+    if waiting_of(state, chosen.slot) == 0 {
+        row_left(state, chosen, head);
+    } else {
+        row_stays(state, chosen, place, head);
     }
-    row_stays(state, slot, place, head, scan);
 }
 
 // "If no record is left, the row leaves, its deficit is 0, the visit ends, a closing slot is freed".
-fn row_left(state: &mut [u8], slot: usize, head: Head, scan: Scan)
-    requires { (z : Settling state.old slot head scan) × (z.channel.waiting ≡ []) }
-    ensures { (z : Settling state.old slot head scan) → z.channel.waiting ≡ [] → state.new ≡ bytes_of (rowless z.state slot z.channel) }
+fn row_left(state: &mut [u8], chosen: Chosen, head: Head)
+    requires { (z : Settling state.old chosen.slot head chosen.scan) × (z.channel.waiting ≡ []) }
+    ensures { (z : Settling state.old chosen.slot head chosen.scan) → z.channel.waiting ≡ [] → state.new ≡ bytes_of (rowless z.state chosen.slot z.channel) }
 {
-    row_gone(state, slot, head);
+    row_gone(state, chosen.slot, head);
+    let scan = chosen.scan;
     store_scan(state, Scan { visit: 0, ..scan });
 }
 
@@ -92,15 +86,16 @@ fn emptied(head: Head) -> Head
 }
 
 // "Otherwise the visit stays open exactly if the new head's length is at most the deficit." (By 02 §1 its cost.) The new head has moved down to the old one's place.
-fn row_stays(state: &mut [u8], slot: usize, place: usize, head: Head, scan: Scan)
-    requires { (z : Settling state.old slot head scan) × (0 < length z.channel.waiting) × (place ≡ first_at state.old slot) }
-    ensures { (z : Settling state.old slot head scan) (h : Record) (rest : List Record) → z.channel.waiting ≡ h ∷ rest
-        → state.new ≡ bytes_of (rules.row_stays z.state slot h z.channel) }
+fn row_stays(state: &mut [u8], chosen: Chosen, place: usize, head: Head)
+    requires { (z : Settling state.old chosen.slot head chosen.scan) × (0 < length z.channel.waiting) × (place ≡ first_at state.old chosen.slot) }
+    ensures { (z : Settling state.old chosen.slot head chosen.scan) (h : Record) (rest : List Record) → z.channel.waiting ≡ h ∷ rest
+        → state.new ≡ bytes_of (rules.row_stays z.state chosen.slot h z.channel) }
 {
     let next = load_record(state, place);
     let cost = cost_of(next.length);
-    let visit = visit_left(slot, cost, head.deficit);
-    store_head(state, slot, head);
+    let visit = visit_left(chosen.slot, cost, head.deficit);
+    let scan = chosen.scan;
+    store_head(state, chosen.slot, head);
     store_scan(state, Scan { visit, ..scan });
 }
 

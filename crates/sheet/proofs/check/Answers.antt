@@ -1,5 +1,5 @@
 -- The two refusals; then what the walk found, and whether the list ends there.
-use mathlib.Core.Path.{sym, ap, ◌∙◌}
+use mathlib.Core.Path.{sym, ◌∙◌}
 use native.Mathlib.Omega.{arith}
 use Rattle.sheet.proofs.WeightLaws.{order_small}
 use Rattle.sheet.proofs.Sheets.{named_small}

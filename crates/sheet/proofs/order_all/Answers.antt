@@ -1,5 +1,5 @@
 -- The order of the union is that of all.
-use mathlib.Core.Path.{◌≡◌, ap, ◌∙◌}
+use mathlib.Core.Path.{◌≡◌, ap}
 use native.Mathlib.Omega.{arith}
 use borrow.Author.Rules.{rules}
 use Rattle.std.specs.Int.Bits.{bit_or}

@@ -8,14 +8,13 @@ use Rattle.std.proofs.lemmas.Result.{err_from_is_err_and}
 use Rattle.bits.proofs.ShiftLaws.{shifted}
 use Rattle.spread.specs.Visits.{column_at}
 use Rattle.spread.specs.Round.{rows_with}
-use Rattle.sheet.specs.Sheet.{columns_on_sheet}
 use Rattle.sheet.specs.declared.line.Line.{Line}
 use Rattle.sheet.specs.Lines.{rows_of, Laid}
 use Rattle.sheet.proofs.LinesLaws.{round-begin, round-end, column-goes, column_stops}
 use Rattle.sheet.proofs.round.Goals as goal
 
 -- the line held is that of the position's column
-line-is : (ws line : List ℕ) (lines : List Line) (k p column : ℕ) (l : Line) → Laid ws lines → column ≡ column_at k p → column < columns_on_sheet
+line-is : (ws line : List ℕ) (lines : List Line) (k p column : ℕ) (l : Line) → Laid ws lines k → column ≡ column_at k p → column < k
     → line ≡ rows_of (get_or lines column l) → line ≡ rows_with (column_at k p) 0 ws
 line-is ws line lines k p column l laid e low shown = shown ∙ laid column l low ∙ ap (λ (x : ℕ). rows_with x 0 ws) e
 
@@ -23,19 +22,22 @@ whole : (k : ℕ) → k < 32 → 1 * 2 ^ k % 2 ^ 32 ≡ 2 ^ k
 whole k h = shifted 32 k h
 
 pub loop-position-init : goal.loop-position-init
-loop-position-init c = round-begin _ _ _ c.order_all-k.ensures
+loop-position-init c = (omega arith, round-begin _ _ _ c.order_all-k.ensures)
 
 pub returns-in_err-at : goal.returns-in_err-at
 returns-in_err-at c =
     let line = line-is c.args.weights.now c.rows.result.now c.lay-lines.result _ _ _ _ c.lay-lines.ensures c.column_at.ensures.0 (omega arith) c.rows.ensures in
     let p = err_from_is_err_and c.from_residual.result c.from_residual.ensures.1 in
     rw (p.1, p.2)
-    (sym (sym c.loop-position.invariant ∙ column_stops _ _ _ _ _ _ (omega arith) (omega (arith, whole c.order_all-k.result (omega arith))) line _ c.in_err-at.ensures))
+    (sym (sym c.loop-position.invariant.1 ∙ column_stops _ _ _ _ _ _ (omega arith) (omega (arith, whole c.order_all-k.result (omega arith))) line _ c.in_err-at.ensures.found))
 
 pub loop-position-preserved : goal.loop-position-preserved
 loop-position-preserved c =
-    let line = line-is c.args.weights.now c.rows.result.now c.lay-lines.result _ _ _ _ c.lay-lines.ensures c.column_at.ensures.0 (omega arith) c.rows.ensures in
-    sym (column-goes _ _ _ _ _ _ (omega arith) (omega (arith, whole c.order_all-k.result (omega arith))) line _ c.in_ok-at.ensures) ∙ c.loop-position.invariant
+    let line = line-is c.args.weights.now c.rows.result.now c.lay-lines.result _ _ _ _ c.lay-lines.ensures c.column_at.ensures.0 (omega arith) c.rows.ensures in (
+      c.in_ok-at.ensures.within,
+      sym (column-goes _ _ _ _ _ _ (omega arith) (omega (arith, whole c.order_all-k.result (omega arith))) line _ c.in_ok-at.ensures.found)
+          ∙ c.loop-position.invariant.1,
+    )
 
 pub returns : goal.returns
-returns c = sym (sym c.loop-position.invariant ∙ round-end _ _ _ _ _ (omega (arith, whole c.order_all-k.result (omega arith))))
+returns c = sym (sym c.loop-position.invariant.1 ∙ round-end _ _ _ _ _ (omega (arith, whole c.order_all-k.result (omega arith))))

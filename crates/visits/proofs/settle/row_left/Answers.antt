@@ -14,7 +14,7 @@ store_scan-requires c =
 
 pub returns : goal.returns
 returns c =
-    let i = c.args.slot in
+    let i = c.args.chosen.slot in
     λ z none.
     c.store_scan.ensures (gone z) (rowless z.state i z.channel).scan (gone-fits z)
     (c.row_gone.ensures z.state z.channel z.fits z.memory z.apart z.head-is (sym z.left ∙ none))

@@ -31,7 +31,7 @@ store_scan-requires c =
 
 pub returns : goal.returns
 returns c =
-    let i = c.args.slot in
+    let i = c.args.chosen.slot in
     let here = c.requires.2 in
     λ z h rest w.
     let queue : (at z.state.channels i).waiting ≡ h ∷ rest = sym z.left ∙ w in

@@ -22,7 +22,7 @@ row_left-requires c =
 
 pub returns-then-waiting_of-eq0 : goal.returns-then-waiting_of-eq0
 returns-then-waiting_of-eq0 c =
-    let i = c.args.slot in
+    let i = c.args.chosen.slot in
     λ z.
     let none : z.channel.waiting ≡ [] = length_none z.channel.waiting (sym (settling_waiting z) ∙ sym c.waiting_of.ensures.0 ∙ c.if-waiting_of-eq0.true) in
     c.row_left.ensures z none ∙ ap (λ (rs : List Record). bytes_of (unordered rs z.state i z.channel)) (sym none)
@@ -34,9 +34,9 @@ row_stays-requires c =
     let n : 0 < length z.channel.waiting = omega arith in
     (z, n, here)
 
-pub returns : goal.returns
-returns c =
-    let i = c.args.slot in
+pub returns-else-waiting_of-eq0 : goal.returns-else-waiting_of-eq0
+returns-else-waiting_of-eq0 c =
+    let i = c.args.chosen.slot in
     λ z.
     let (h, more, e) = length_some z.channel.waiting (λ e. c.if-waiting_of-eq0.false (c.waiting_of.ensures.0 ∙ settling_waiting z ∙ e)) in
     c.row_stays.ensures z h more e ∙ ap (λ (rs : List Record). bytes_of (unordered rs z.state i z.channel)) (sym e)
