@@ -1,14 +1,19 @@
 -- Marks beside the rows: row by row they give the rows that pass a test, and the first mark gives the first of them.
 use Prim.Native.Nat.{ℕ, zero, suc, ◌+◌, ◌≤◌, ◌<◌}
 use mathlib.Core.Path.{◌≡◌, refl, sym, ap, ap₂, ◌∙◌}
-use mathlib.Core.Bool.{Bool, true, false, cond, true≢false}
+use mathlib.Core.Bool.{Bool, true, false, cond, not, true≢false}
 use mathlib.Core.List.{List, [], ◌∷◌}
 use native.Mathlib.Omega.{arith}
 use native.Mathlib.Nat.{add-zero}
-use lib.Dec.{leb, eqb}
-use lib.ListN.{length, get_or, set, drop}
+use lib.Dec.{ltb, eqb}
+use lib.ListN.{length, get_or, set, take, drop, get_or-eq_default}
 use lib.Seq.{drop-cons, get_or-set_same, get_or-set_other}
-use borrow.Author.Tests.{leb-true, leb-false}
+use Rattle.std.specs.Prelude.{Option, Some, None}
+use Rattle.std.specs.Option.{IsSome, is_some}
+use Rattle.std.specs.List.{position_or_len}
+use Rattle.std.proofs.lemmas.List.{get_or-take, length-take}
+use Rattle.std.proofs.lemmas.List.Quantifiers.{position-Some}
+use borrow.Author.Tests.{ltb-true, ltb-false}
 use Rattle.bits.specs.Bit.{bit, with_bit}
 use Rattle.bits.specs.Mask.{mask_of}
 use Rattle.lists.specs.Slots.{keep_if, keep}
@@ -18,20 +23,17 @@ use Rattle.spread.specs.Limits.{columns}
 use Rattle.rules.specs.State.{weights, column_of}
 use Rattle.memory.specs.Reading.{row_count_at, in_mask, state_of}
 use Rattle.memory.proofs.SearchLaws.{rows-length}
+use Rattle.rules.specs.Next.{noted}
 use Rattle.plain.specs.Matrix.{Marked, MatrixOf}
-use Rattle.plain.specs.Marks.{marked_from, marked_rows, marks_in, Listed, First}
+use Rattle.plain.specs.Marks.{marked_from, marked_rows, marks_in, first_mark}
 use Rattle.plain.proofs.MatrixLaws.{marked-at}
 
--- ---- marks, set and passed one after the other
+-- ---- marks, set one after the other
 
 pub set-turn : (m : List ℕ) (g : ℕ → ℕ) (n : ℕ) {v : ℕ} → n < length m → ((i : ℕ) → i < n → get_or m i 0 ≡ g i) → v ≡ g n
     → (i : ℕ) → i < suc n → get_or (set m n v) i 0 ≡ g i
 set-turn m g n {v} low h e i l =
     if_eq i n (λ q. rw q (get_or-set_same m n v 0 low ∙ e)) (λ d. get_or-set_other m n i v 0 d ∙ h i (omega (arith, d)))
-
-pub none-turn : (m : List ℕ) (n : ℕ) → ((i : ℕ) → i < n → eqb (get_or m i 0) 1 ≡ false) → eqb (get_or m n 0) 1 ≡ false
-    → (i : ℕ) → i < suc n → eqb (get_or m i 0) 1 ≡ false
-none-turn m n h e i l = if_eq i n (λ q. rw q e) (λ d. h i (omega (arith, d)))
 
 -- ---- which rows have a mark
 
@@ -51,18 +53,16 @@ marks_test m p rows h = from_test (λ i. get_or m i 0) p 0 rows (λ j l. ap (λ 
 pub marks_mask : (m rows : List ℕ) (mask : ℕ) → ((j : ℕ) → j < length rows → get_or m j 0 ≡ bit (get_or rows j 0) mask) → marks_in m rows ≡ in_mask mask rows
 marks_mask m rows mask h = marks_test m (λ r. eqb (bit r mask) 1) rows (λ j l. ap (λ (v : ℕ). eqb v 1) (h j l))
 
-pub marks_column : (f : ℕ → ℕ) (rows m x : List ℕ) (n c : ℕ) → length rows ≡ n → Marked f rows n x → c < columns
-    → Listed x c n m → marks_in m rows ≡ column_of f rows c
-unfolding column_of Listed
-marks_column f rows m x n c count marked low h =
-    marks_test m (λ r. eqb (bit c (f r)) 1) rows
-    (λ j l. ap (λ (v : ℕ). eqb v 1) (h j (omega arith) ∙ marked-at f rows n x marked c j low (omega arith)))
+marks_column : (f : ℕ → ℕ) (rows : List ℕ) (x : List (List ℕ)) (n c : ℕ) → length rows ≡ n → Marked f rows n x → c < columns
+    → marks_in (get_or x c []) rows ≡ column_of f rows c
+unfolding column_of
+marks_column f rows x n c count marked low =
+    marks_test (get_or x c []) (λ r. eqb (bit c (f r)) 1) rows (λ j l. ap (λ (v : ℕ). eqb v 1) (marked-at f rows n x marked c j low (omega arith)))
 
--- of a memory, of whose rows the code has read the number n
-pub column_marks : (b m x : List ℕ) {n c : ℕ} → MatrixOf b x → n ≡ row_count_at b → c < columns → Listed x c n m
-    → marks_in m (state_of b).rows ≡ column_of (weights (state_of b).channels) (state_of b).rows c
-column_marks b m x {n} {c} matrix e low h =
-    marks_column (weights (state_of b).channels) (state_of b).rows m x (row_count_at b) c (rows-length b) matrix.1 low (rw e at h)
+-- of a memory: a column of its matrix is its own marks
+pub column_marks : (b : List ℕ) (x : List (List ℕ)) {c : ℕ} → MatrixOf b x → c < columns
+    → marks_in (get_or x c []) (state_of b).rows ≡ column_of (weights (state_of b).channels) (state_of b).rows c
+column_marks b x {c} matrix low = marks_column (weights (state_of b).channels) (state_of b).rows x (row_count_at b) c (rows-length b) matrix low
 
 -- ---- one row after the other
 
@@ -114,37 +114,92 @@ from-same f g i [] h = refl
 from-same f g i (r ∷ rows) h =
     ap₂ (λ (b : Bool) (xs : List ℕ). keep_if b r xs) (ap (λ (v : ℕ). eqb v 1) (h i (omega arith))) (from-same f g (suc i) rows (λ j l. h j (omega arith)))
 
--- no row has a mark
-pub marks_none : (m rows : List ℕ) (n r : ℕ) → length rows ≡ n → First m n r → n ≤ r → marks_in m rows ≡ []
-marks_none m rows n r count first l =
-    passed (λ i. get_or m i 0) rows r (omega (arith, first.most)) first.before ∙ from_end (λ i. get_or m i 0) rows r (omega arith)
+-- r is the first of n rows that has a mark, or none has
+First : List ℕ → ℕ → Option ℕ → Type 0
+First m n (Some r) = (r < n) × (eqb (get_or m r 0) 1 ≡ true) × ((i : ℕ) → i < r → eqb (get_or m i 0) 1 ≡ false)
+First m n None = (i : ℕ) → i < n → eqb (get_or m i 0) 1 ≡ false
 
--- where there are marked rows there is a first mark
-pub some_first : (m rows : List ℕ) (n r : ℕ) → length rows ≡ n → First m n r → is_empty (marks_in m rows) ≡ false → r < n
-some_first m rows n r count first some-there = go (leb n r) refl
+unpassed : (p : ℕ → Bool) (xs : List ℕ) → length xs ≤ position_or_len p xs → (i : ℕ) → i < length xs → p (get_or xs i 0) ≡ false
+unpassed p [] l i h = absurd (omega arith)
+unpassed p (x ∷ xs) l i h = go (unpassed p xs) (p x) refl l i h
   where
-    go : (t : Bool) → leb n r ≡ t → r < n
-    go true q = absurd (true≢false (sym (ap is_empty (marks_none m rows n r count first (leb-true n r q))) ∙ some-there))
-    go false q = leb-false n r q
+    go : (length xs ≤ position_or_len p xs → (i : ℕ) → i < length xs → p (get_or xs i 0) ≡ false) → (t : Bool) → p x ≡ t → suc (length xs) ≤ cond (not t) (1 + position_or_len p xs) 0 → (i : ℕ) → i < suc (length xs) → p (get_or (x ∷ xs) i 0) ≡ false
+    go rest true e l i h = absurd (omega arith)
+    go rest false e l zero h = e
+    go rest false e l (suc i) h = rest (omega arith) i (omega arith)
 
--- the first row with a mark comes first, then the rows marked without it
-pub marks_first : (m rows : List ℕ) (n r : ℕ) → length rows ≡ n → n ≤ length m → First m n r → r < n → marks_in m rows ≡ get_or rows r 0 ∷ marks_in (set m r 0) rows
-marks_first m rows n r count size first l =
-    passed f rows r (omega arith) first.before
-    ∙ from_step f rows r (omega arith)
-    ∙ ap (λ (b : Bool). keep_if b (get_or rows r 0) (marked_from f (suc r) (drop (suc r) rows))) (first.here l)
-    ∙ ap (λ (xs : List ℕ). get_or rows r 0 ∷ xs) (from-same f g (suc r) (drop (suc r) rows) (λ j h. sym (other j (λ e. omega arith))) ∙ sym (passed g rows (suc r) (omega arith) gone))
-  where
-    f : ℕ → ℕ
-    f i = get_or m i 0
+-- n rows; and where there is no mark beside one, that is a 0
+module _ (m rows : List ℕ) (n : ℕ) (count : length rows ≡ n) where
+  abbrev mark : ℕ → ℕ
+  mark i = get_or m i 0
 
-    g : ℕ → ℕ
-    g i = get_or (set m r 0) i 0
+  abbrev near : List ℕ
+  near = take n m
 
-    other : (j : ℕ) → (j ≡ r → ⊥) → g j ≡ f j
-    other j d = get_or-set_other m r j 0 0 d
+  kept : (i : ℕ) → i < n → get_or near i 0 ≡ mark i
+  kept i l = get_or-take n m i 0 l
 
-    gone : (j : ℕ) → j < suc r → eqb (g j) 1 ≡ false
-    gone j h =
-        if_eq j r (λ e. ap (λ (k : ℕ). eqb (g k) 1) e ∙ ap (λ (v : ℕ). eqb v 1) (get_or-set_same m r 0 0 (omega arith)))
-        (λ d. ap (λ (v : ℕ). eqb v 1) (other j d) ∙ first.before j (omega arith))
+  first_found : (o : Option ℕ) → o ≡ first_mark m n → First m n o
+  unfolding First
+  first_found (Some r) e =
+      let (l, here, before) = position-Some (λ v. eqb v 1) near r 0 (sym e) in
+      let low : r < n = omega (arith, length-take n m) in
+      (low, ap (λ (v : ℕ). eqb v 1) (sym (kept r low)) ∙ here, λ i h. ap (λ (v : ℕ). eqb v 1) (sym (kept i (omega arith))) ∙ before i h)
+  first_found None e =
+      λ i h. go i h (ltb i (length near)) refl
+    where
+      past : length near ≤ position_or_len (λ v. eqb v 1) near
+      past = go (ltb (position_or_len (λ v. eqb v 1) near) (length near)) refl
+        where
+          go : (t : Bool) → ltb (position_or_len (λ v. eqb v 1) near) (length near) ≡ t → length near ≤ position_or_len (λ v. eqb v 1) near
+          go true q = let z : ◌≡◌ {A = Option ℕ} None (Some (position_or_len (λ v. eqb v 1) near)) = e ∙ rw q refl in absurd (let w : ◌≡◌ {A = ℕ} 0 1 = cc in omega arith)
+          go false q = ltb-false _ _ q
+
+      go : (i : ℕ) → i < n → (t : Bool) → ltb i (length near) ≡ t → eqb (mark i) 1 ≡ false
+      go i h true q = ap (λ (v : ℕ). eqb v 1) (sym (kept i h)) ∙ unpassed (λ v. eqb v 1) near past i (ltb-true _ _ q)
+      go i h false q = ap (λ (v : ℕ). eqb v 1) (get_or-eq_default m 0 (omega (arith, ltb-false _ _ q, length-take n m)))
+
+  -- no row has a mark
+  pub marks_none : None ≡ first_mark m n → marks_in m rows ≡ []
+  unfolding First
+  marks_none e = passed mark rows n (omega arith) (first_found None e) ∙ from_end mark rows n (omega arith)
+
+  -- where there are marked rows there is a first mark
+  pub some_first : (o : Option ℕ) → o ≡ first_mark m n → is_empty (marks_in m rows) ≡ false → IsSome o
+  some_first (Some r) e some-there = refl
+  some_first None e some-there = absurd (true≢false (sym (ap is_empty (marks_none e)) ∙ some-there))
+
+  -- the first row with a mark comes first, then the rows marked without it
+  pub marks_first : (r : ℕ) → Some r ≡ first_mark m n → (r < n) × (marks_in m rows ≡ get_or rows r 0 ∷ marks_in (set m r 0) rows)
+  unfolding First
+  marks_first r e =
+      let (l, here, before) = first_found (Some r) e in
+      let there : r < length m = omega (arith, (position-Some (λ v. eqb v 1) near r 0 (sym e)).0, length-take n m) in
+      (l, marks_split r l there here before)
+    where
+      marks_split : (r : ℕ) → r < n → r < length m → eqb (mark r) 1 ≡ true → ((i : ℕ) → i < r → eqb (mark i) 1 ≡ false) → marks_in m rows ≡ get_or rows r 0 ∷ marks_in (set m r 0) rows
+      marks_split r l there here before =
+          passed mark rows r (omega arith) before
+          ∙ from_step mark rows r (omega arith)
+          ∙ ap (λ (b : Bool). keep_if b (get_or rows r 0) (marked_from mark (suc r) (drop (suc r) rows))) here
+          ∙ ap (λ (xs : List ℕ). get_or rows r 0 ∷ xs) (from-same mark left (suc r) (drop (suc r) rows) (λ j h. sym (other j (λ e. omega arith))) ∙ sym (passed left rows (suc r) (omega arith) gone))
+        where
+          left : ℕ → ℕ
+          left i = get_or (set m r 0) i 0
+
+          other : (j : ℕ) → (j ≡ r → ⊥) → left j ≡ mark j
+          other j d = get_or-set_other m r j 0 0 d
+
+          gone : (j : ℕ) → j < suc r → eqb (left j) 1 ≡ false
+          gone j h =
+              if_eq j r (λ e. ap (λ (k : ℕ). eqb (left k) 1) e ∙ ap (λ (v : ℕ). eqb v 1) (get_or-set_same m r 0 0 (omega arith)))
+              (λ d. ap (λ (v : ℕ). eqb v 1) (other j d) ∙ before j (omega arith))
+
+  -- "When the list is empty the noted column is 0."
+  pub noted_some : (o : Option ℕ) → o ≡ first_mark m n → is_some o ≡ true → (c : ℕ) → c ≡ noted (marks_in m rows) c
+  noted_some (Some r) e q c = let (l, listed) = marks_first r e in sym (ap (λ (l : List ℕ). noted l c) listed)
+  noted_some None e q c = absurd (true≢false (sym q))
+
+  pub noted_none : (o : Option ℕ) → o ≡ first_mark m n → is_some o ≡ false → (c : ℕ) → 0 ≡ noted (marks_in m rows) c
+  noted_none (Some r) e q c = absurd (true≢false q)
+  noted_none None e q c = sym (ap (λ (l : List ℕ). noted l c) (marks_none e))

@@ -21,49 +21,53 @@ use Rattle.rules.specs.Numbers.{slots}
 use Rattle.rules.specs.State.{weights, order_of, column_of}
 use Rattle.memory.specs.Reading.{row_count_at, state_of}
 use Rattle.memory.proofs.SearchLaws.{rows-length}
-use Rattle.plain.specs.Matrix.{cells, place, cell, Marked, Top}
+use Rattle.plain.specs.Matrix.{cell, Marked, Top}
 
 -- ---- one cell of a row after the other
 
--- v is written where the cell of column k and row r stands
-module _ (m : List ℕ) (k r v at : ℕ) (there : at ≡ place k r) (size : length m ≡ cells) (low : k < columns) (row : r < slots) where
-  cell_same : cell (set m at v) k r ≡ v
-  cell_same = rw there (get_or-set_same m (place k r) v 0 (omega arith))
+-- v is written in the cell of column k and row r
+module _ (m : List (List ℕ)) (k r v : ℕ) (size : k < length m) (low : r < length (get_or m k [])) where
+  abbrev written : List (List ℕ)
+  written = set m k (set (get_or m k []) r v)
 
-  pub cell_other : (c s : ℕ) → s < slots → (s ≡ r → ⊥) → cell (set m at v) c s ≡ cell m c s
-  cell_other c s l d = get_or-set_other m at (place c s) v 0 (λ e. d (omega arith))
+  column_same : get_or written k [] ≡ set (get_or m k []) r v
+  column_same = get_or-set_same m k (set (get_or m k []) r v) [] size
 
-  cell-before : (c : ℕ) → (c ≡ k → ⊥) → cell (set m at v) c r ≡ cell m c r
-  cell-before c d = get_or-set_other m at (place c r) v 0 (λ e. d (omega arith))
+  pub cell_other : (c s : ℕ) → (s ≡ r → ⊥) → cell written c s ≡ cell m c s
+  cell_other c s d =
+      if_eq c k (λ e. rw e (ap (λ (l : List ℕ). get_or l s 0) column_same ∙ get_or-set_other (get_or m k []) r s v 0 d))
+      (λ n. ap (λ (l : List ℕ). get_or l s 0) (get_or-set_other m k c _ [] n))
 
-  pub cells-turn : (w : ℕ) → v ≡ bit k w → ((c : ℕ) → c < k → cell m c r ≡ bit c w) → (c : ℕ) → c < suc k → cell (set m at v) c r ≡ bit c w
-  cells-turn w e h c l = if_eq c k (λ s. rw s (cell_same ∙ e)) (λ d. cell-before c d ∙ h c (omega (arith, d)))
+  pub cells-turn : (w : ℕ) → v ≡ bit k w → ((c : ℕ) → c < k → cell m c r ≡ bit c w) → (c : ℕ) → c < suc k → cell written c r ≡ bit c w
+  cells-turn w e h c l =
+      if_eq c k (λ s. rw s (ap (λ (x : List ℕ). get_or x r 0) column_same ∙ get_or-set_same (get_or m k []) r v 0 low ∙ e))
+      (λ d. ap (λ (x : List ℕ). get_or x r 0) (get_or-set_other m k c _ [] d) ∙ h c (omega (arith, d)))
 
 -- ---- one row after the other
 
 module _ (f : ℕ → ℕ) (rows : List ℕ) where
-  pub marked-none : (m : List ℕ) → Marked f rows 0 m
+  pub marked-none : (m : List (List ℕ)) → Marked f rows 0 m
   unfolding Marked
   marked-none m c r l l' = absurd (omega arith)
 
-  pub marked_turn : (n w : ℕ) (m m' : List ℕ) → n < slots → w ≡ f (get_or rows n 0) → Marked f rows n m → ((c : ℕ) → c < columns → cell m' c n ≡ bit c w)
+  pub marked_turn : (n w : ℕ) (m m' : List (List ℕ)) → n < slots → w ≡ f (get_or rows n 0) → Marked f rows n m → ((c : ℕ) → c < columns → cell m' c n ≡ bit c w)
       → ((c r : ℕ) → r < slots → (r ≡ n → ⊥) → cell m' c r ≡ cell m c r) → Marked f rows (suc n) m'
   unfolding Marked
   marked_turn n w m m' low e h new old c r l l' =
       if_eq r n (λ s. rw s (new c l ∙ ap (bit c) e)) (λ d. old c r (omega arith) d ∙ h c r l (omega (arith, d)))
 
-  pub marked-at : (n : ℕ) (m : List ℕ) → Marked f rows n m → (c r : ℕ) → c < columns → r < n → cell m c r ≡ bit c (f (get_or rows r 0))
+  pub marked-at : (n : ℕ) (m : List (List ℕ)) → Marked f rows n m → (c r : ℕ) → c < columns → r < n → cell m c r ≡ bit c (f (get_or rows r 0))
   unfolding Marked
   marked-at n m h = h
 
 -- ---- the highest column
 
 -- one more cell of a column is 0
-pub zeros-turn : (m : List ℕ) (c n : ℕ) → ((i : ℕ) → i < n → cell m c i ≡ 0) → cell m c n ≡ 0 → (i : ℕ) → i < suc n → cell m c i ≡ 0
+pub zeros-turn : (m : List (List ℕ)) (c n : ℕ) → ((i : ℕ) → i < n → cell m c i ≡ 0) → cell m c n ≡ 0 → (i : ℕ) → i < suc n → cell m c i ≡ 0
 zeros-turn m c n h e i l = if_eq i n (λ s. rw s e) (λ d. h i (omega (arith, d)))
 
 -- the columns from k on are empty, and so is the next one below
-pub above-turn : (m : List ℕ) (n k : ℕ) → ((c r : ℕ) → suc k ≤ c → c < columns → r < n → cell m c r ≡ 0) → ((r : ℕ) → r < n → cell m k r ≡ 0)
+pub above-turn : (m : List (List ℕ)) (n k : ℕ) → ((c r : ℕ) → suc k ≤ c → c < columns → r < n → cell m c r ≡ 0) → ((r : ℕ) → r < n → cell m k r ≡ 0)
     → (c r : ℕ) → k ≤ c → c < columns → r < n → cell m c r ≡ 0
 above-turn m n k h e c r l l' l'' = if_eq c k (λ s. rw s (e r l'')) (λ d. h c r (omega (arith, d)) l' l'')
 
@@ -91,7 +95,7 @@ low-order (suc w) k l h = go (leb (order (suc w)) k) refl
         absurd (omega (arith, order-top (suc w) (omega arith), h (order (suc w) - 1) (omega arith) (omega arith)))
 
 -- n is the number of the rows
-module _ (f : ℕ → ℕ) (rows m : List ℕ) (n k : ℕ) (count : length rows ≡ n) (marked : Marked f rows n m) (most : order_of f rows ≤ columns) (top : Top m n k) where
+module _ (f : ℕ → ℕ) (rows : List ℕ) (m : List (List ℕ)) (n k : ℕ) (count : length rows ≡ n) (marked : Marked f rows n m) (most : order_of f rows ≤ columns) (top : Top m n k) where
   top-most : order_of f rows ≤ k
   top-most =
       orders-le f rows k
@@ -117,7 +121,7 @@ module _ (f : ℕ → ℕ) (rows m : List ℕ) (n k : ℕ) (count : length rows 
   top-order = omega (arith, top-most, top_least)
 
 -- of a memory: n is the number of rows that the code has read
-pub order-found : (b m : List ℕ) (n k : ℕ) → n ≡ row_count_at b → Marked (weights (state_of b).channels) (state_of b).rows (row_count_at b) m
+pub order-found : (b : List ℕ) (m : List (List ℕ)) (n k : ℕ) → n ≡ row_count_at b → Marked (weights (state_of b).channels) (state_of b).rows (row_count_at b) m
     → order_of (weights (state_of b).channels) (state_of b).rows ≤ columns → Top m n k → k ≡ order_of (weights (state_of b).channels) (state_of b).rows
 order-found b m n k e marked most top =
     top-order (weights (state_of b).channels) (state_of b).rows m (row_count_at b) k (rows-length b) marked most (rw e at top)
@@ -137,7 +141,7 @@ keep_some p (x ∷ xs) (suc i) l e = go (p x) (keep_some p xs i (omega arith) e)
     go true h = refl
     go false h = h
 
-module _ (f : ℕ → ℕ) (rows m : List ℕ) (n c : ℕ) (count : length rows ≡ n) (marked : Marked f rows n m) (low : c < columns) where
+module _ (f : ℕ → ℕ) (rows : List ℕ) (m : List (List ℕ)) (n c : ℕ) (count : length rows ≡ n) (marked : Marked f rows n m) (low : c < columns) where
   pub column-none : ((i : ℕ) → i < n → cell m c i ≡ 0) → column_of f rows c ≡ []
   unfolding column_of
   column-none h =

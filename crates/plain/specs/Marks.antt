@@ -1,7 +1,7 @@
 -- The slots still to be visited, on paper: a mark, 1 or 0, beside each row.
-use Rattle.std.specs.Prelude.{ℕ, suc, ◌≤◌, ◌<◌, ◌≡◌, true, false, List, [], ◌∷◌, eqb, get_or}
+use Rattle.std.specs.Prelude.{ℕ, suc, List, [], ◌∷◌, eqb, get_or, take, Option, ◌==◌}
+use Rattle.std.specs.List.{position}
 use Rattle.lists.specs.Slots.{keep_if}
-use Rattle.plain.specs.Matrix.{cell}
 
 -- the rows, in joining order, whose mark is 1: row i has mark f i. (The first of the rows given is row i.)
 unfoldable pub marked_from : (ℕ → ℕ) → ℕ → List ℕ → List ℕ
@@ -15,12 +15,6 @@ marked_rows f rows = marked_from f 0 rows
 abbrev pub marks_in : List ℕ → List ℕ → List ℕ
 marks_in m rows = marked_rows (λ i. get_or m i 0) rows
 
--- each of the first n rows has its cell of column c of the matrix x as its mark
-unfoldable pub Listed : List ℕ → ℕ → ℕ → List ℕ → Type 0
-Listed x c n m = (r : ℕ) → r < n → get_or m r 0 ≡ cell x c r
-
--- r is the first of n rows that has a mark, and n where none has
-pub record First (m : List ℕ) (n r : ℕ) : Type 0 where
-  pub most : r ≤ n
-  pub before : (i : ℕ) → i < r → eqb (get_or m i 0) 1 ≡ false
-  pub here : r < n → eqb (get_or m r 0) 1 ≡ true
+-- which of n rows is the first that has a mark, if one has
+abbrev pub first_mark : List ℕ → ℕ → Option ℕ
+first_mark m n = position (λ v. v == 1) (take n m)

@@ -1,54 +1,41 @@
 // Which slot sends next: the open visit's, else the first row of the list, else the first of the next column that has a row.
 //
 // Nothing is written here. The contract is that of visits::choose::choose: the rules' own choice, in numbers.
-ghost use Rattle.std.specs.Prelude.{◌≡◌, ◌<◌, length};
+ghost use Rattle.std.specs.Prelude.{◌≡◌, Some};
 ghost use Rattle.std.proofs.Math.Option.{some, map};
-ghost use Rattle.rules.specs.Numbers.{slots};
 ghost use Rattle.rules.specs.Next as rules;
 ghost use Rattle.memory.specs.Reading.{row_count_at, state_of};
 ghost use Rattle.memory.specs.Search.{RowsWithin};
 ghost use Rattle.visits.specs.Choice.{chosen_of, in_chosen, Chooses};
 ghost use Rattle.plain.specs.Matrix.{MatrixOf};
-ghost use Rattle.plain.specs.Marks.{marks_in, First};
+ghost use Rattle.plain.specs.Marks.{marks_in, first_mark};
 ghost use Rattle.plain.specs.Places.{Begins, Finds, Starts};
 
-use super::list::{column_listed, first_marked, marks_of, mask_of};
-use super::matrix::{CELLS, fill};
+use super::list::{Marks, first_marked, marks_of, mask_of};
+use super::matrix::{Matrix, filled};
 use super::scan::{Place, column_found};
 use memory::point::{Scan, load_order};
 use memory::rows::row_count;
 use memory::search::row_at;
-use rules::SLOTS;
 use terms::table::copied;
-use visits::choose::Chosen;
+use visits::choose::{Chosen, open_visit};
 
 // "If a visit is open, its slot is chosen. Else, if slots remain to visit, the first of them in row order starts a visit." Else terms are taken until there is one.
 pub fn choose(state: &[u8], scan: Scan) -> Chosen
     requires { Chooses state.now scan }
     ensures { some result ≡ map in_chosen (chosen_of (state_of state.now)) }
 {
-    let visit = scan.visit;
-    let order = load_order(state);
-    if visit != 0 {
-        return Chosen {
-            slot: visit as usize - 1,
-            started: 0,
-            terms: 0,
-            order,
-            scan,
-        };
+    if scan.visit != 0 {
+        return open_visit(state, scan);
     }
     let place = Place {
-        order,
+        order: load_order(state),
         position: scan.position,
         column: scan.column,
         terms: 0,
     };
-    let mut list: [u8; SLOTS] = [0; SLOTS];
-    marks_of(state, scan.mask, &mut list);
-    let count = row_count(state);
-    let row = first_marked(&list, count);
-    if row < count {
+    let mut list = marks_of(state, scan.mask);
+    if let Some(row) = first_marked(&list, row_count(state)) {
         return first_visit(state, &mut list, row, place);
     }
     by_terms(state, place)
@@ -60,27 +47,24 @@ fn by_terms(state: &[u8], start: Place) -> Chosen
     ensures { some result ≡ map in_chosen (chosen_of (state_of state.now)) }
 {
     let table = copied();
-    let mut matrix: [u8; CELLS] = [0; CELLS];
-    fill(state, &mut matrix);
+    let matrix = filled(state);
     let found = column_found(state, &matrix, &table, start);
     column_visited(state, &matrix, found)
 }
 
 // "All rows of the column found become the slots to visit, and the first starts its visit."
-fn column_visited(state: &[u8], matrix: &[u8], found: Place) -> Chosen
+fn column_visited(state: &[u8], matrix: &Matrix, found: Place) -> Chosen
     requires { RowsWithin state.now × MatrixOf state.now matrix.now × Finds state.now found }
     ensures { some result ≡ map in_chosen (chosen_of (state_of state.now)) }
 {
-    let mut list: [u8; SLOTS] = [0; SLOTS];
-    let count = row_count(state);
-    column_listed(matrix, found.column as u32, count, &mut list);
-    let row = first_marked(&list, count);
+    let mut list: Marks = matrix[usize::from(found.column)];
+    let row = first_marked(&list, row_count(state)).unwrap();
     first_visit(state, &mut list, row, found)
 }
 
 // The first row of the list starts its visit. "Starting a visit takes the slot off that list".
-fn first_visit(state: &[u8], list: &mut [u8], row: usize, place: Place) -> Chosen
-    requires { RowsWithin state.now × (length list.old ≡ slots) × First list.old (row_count_at state.now) row × (row < row_count_at state.now) }
+fn first_visit(state: &[u8], list: &mut Marks, row: usize, place: Place) -> Chosen
+    requires { RowsWithin state.now × (Some row ≡ first_mark list.old (row_count_at state.now)) }
     ensures { Starts place (marks_in list.old (state_of state.now).rows) result }
 {
     list[row] = 0;
@@ -103,12 +87,11 @@ fn first_visit(state: &[u8], list: &mut [u8], row: usize, place: Place) -> Chose
 }
 
 // "When the list is empty the noted column is 0."
-fn noted(state: &[u8], list: &[u8], column: u8) -> u8
-    requires { RowsWithin state.now × (length list.now ≡ slots) }
+fn noted(state: &[u8], list: &Marks, column: u8) -> u8
+    requires { RowsWithin state.now }
     ensures { result ≡ rules.noted (marks_in list.now (state_of state.now).rows) column }
 {
-    let count = row_count(state);
-    if first_marked(list, count) < count {
+    if first_marked(list, row_count(state)).is_some() {
         return column;
     }
     0

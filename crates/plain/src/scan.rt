@@ -8,7 +8,7 @@ ghost use Rattle.memory.specs.Reading.{state_of};
 ghost use Rattle.plain.specs.Matrix.{MatrixOf};
 ghost use Rattle.plain.specs.Places.{InRound, Ends, Begins, Finds, next_term, next_round};
 
-use super::matrix::{has_row, order_in};
+use super::matrix::{Matrix, has_row, order_in};
 use memory::layout::Position;
 use memory::point::{holds, turns};
 use memory::rows::row_count;
@@ -24,13 +24,14 @@ pub struct Place {
 }
 
 // "If that column is empty, one more term is taken", in edition 2 so on, "through a round's end if need be, until it finds a row".
-pub fn column_found(state: &[u8], matrix: &[u8], table: &[u8; 4095], start: Place) -> Place
+pub fn column_found(state: &[u8], matrix: &Matrix, table: &[u8; 4095], start: Place) -> Place
     requires { Begins state.now start × MatrixOf state.now matrix.now × (table.now ≡ spread table_order) }
     ensures { Finds state.now result }
 {
     let count = row_count(state);
     let mut place = term_taken(table, start);
-    while !has_row(matrix, place.column as u32, count) {
+    // A while: a term's column alone says whether one more is taken.
+    while !has_row(matrix, usize::from(place.column), count) {
         let ended = round_ended(state, matrix, place);
         place = term_taken(table, ended);
     }
@@ -42,15 +43,13 @@ fn term_taken(table: &[u8; 4095], place: Place) -> Place
     requires { (table.now ≡ spread table_order) × InRound place }
     ensures { result ≡ next_term place }
 {
-    let order = place.order;
-    let last = place.position;
-    let position = next_position(order as u32, last);
-    let term = term_in(table, position as usize);
+    let position = next_position(u32::from(place.order), place.position);
+    let term = term_in(table, usize::from(position));
     Place {
-        order,
         position,
-        column: order - term,
+        column: place.order - term,
         terms: place.terms + 1,
+        ..place
     }
 }
 
@@ -68,19 +67,17 @@ fn next_position(order: u32, position: Position) -> Position
 
 // "a round's end (term 2^k - 1 taken, no visit open, none left to visit); then the order is worked out afresh and P is 0", where the order is held. (The column
 // at `place` is empty.)
-fn round_ended(state: &[u8], matrix: &[u8], place: Place) -> Place
+fn round_ended(state: &[u8], matrix: &Matrix, place: Place) -> Place
     requires { Ends state.now place × MatrixOf state.now matrix.now }
     ensures { result ≡ next_round (state_of state.now) place }
 {
-    let order = place.order;
     let held = holds(state);
-    if held & (place.position + 1 == turns(order as u32)) {
-        let afresh = order_in(matrix, row_count(state)) as u8;
+    if held & (place.position + 1 == turns(u32::from(place.order))) {
+        let order = order_in(matrix, row_count(state)) as u8;
         return Place {
-            order: afresh,
+            order,
             position: 0,
-            column: place.column,
-            terms: place.terms,
+            ..place
         };
     }
     place

@@ -1,13 +1,12 @@
 -- The matrix is that of the memory, and the table S(12).
-use mathlib.Core.Path.{refl}
 use Rattle.visits.proofs.ChoiceInNumbers.{rows_of}
 use Rattle.plain.proofs.choose.by_terms.Goals as goal
 
-pub fill-requires : goal.fill-requires
-fill-requires c = (rows_of c.requires.memory, refl)
+pub filled-matrix-requires : goal.filled-matrix-requires
+filled-matrix-requires c = rows_of c.requires.memory
 
 pub column_found-found-requires : goal.column_found-found-requires
-column_found-found-requires c = (c.requires, c.fill.ensures, c.copied-table.ensures)
+column_found-found-requires c = (c.requires, c.filled-matrix.ensures, c.copied-table.ensures)
 
 pub column_visited-requires : goal.column_visited-requires
-column_visited-requires c = (rows_of c.requires.memory, c.fill.ensures, c.column_found-found.ensures)
+column_visited-requires c = (rows_of c.requires.memory, c.filled-matrix.ensures, c.column_found-found.ensures)

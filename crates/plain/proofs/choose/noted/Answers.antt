@@ -1,34 +1,21 @@
 -- Whether there is a first mark tells whether a row is listed.
-use Prim.Native.Nat.{ℕ}
-use mathlib.Core.List.{List}
-use mathlib.Core.Path.{sym, ap, ◌∙◌}
-use native.Mathlib.Omega.{arith}
-use borrow.Author.Rules.{rules}
-use Rattle.rules.specs.Next as rules
+use Rattle.std.proofs.Common.{sym, ◌∙◌, arith}
 use Rattle.memory.specs.Reading.{state_of}
 use Rattle.memory.proofs.SearchLaws.{rows-length}
-use Rattle.plain.proofs.MarkLaws.{marks_first, marks_none}
+use Rattle.plain.proofs.MarkLaws.{noted_some, noted_none}
 use Rattle.plain.proofs.choose.noted.Goals as goal
 
-pub row_count-count-requires : goal.row_count-count-requires
-row_count-count-requires c = c.requires.0.size
-
 pub first_marked-requires : goal.first_marked-requires
-first_marked-requires c = (c.requires.1, omega (arith, c.requires.0.few, c.row_count-count.ensures.0))
+first_marked-requires c = omega (arith, c.requires.few, c.row_count.ensures.0)
 
-pub returns-then-first_marked-count : goal.returns-then-first_marked-count
-returns-then-first_marked-count c =
-    let a = c.args in
-    let P = c.requires in
-    let b = a.state.now in
-    let n = c.row_count-count in
-    let listed = marks_first a.list.now (state_of b).rows n.result c.first_marked.result (rows-length b ∙ sym n.ensures.0) (omega (arith, P.0.few, P.1, n.ensures.0)) c.first_marked.ensures c.if-first_marked-count.true in
-    sym (ap (λ (l : List ℕ). rules.noted l a.column) listed)
+pub returns-then-is_some : goal.returns-then-is_some
+returns-then-is_some c =
+    let b = c.args.state.now in
+    let n = c.row_count in
+    noted_some c.args.list.now (state_of b).rows n.result (rows-length b ∙ sym n.ensures.0) c.first_marked.result c.first_marked.ensures (sym c.is_some.ensures ∙ c.if-is_some.true) c.args.column
 
 pub returns : goal.returns
 returns c =
-    let a = c.args in
-    let b = a.state.now in
-    let n = c.row_count-count in
-    let none = marks_none a.list.now (state_of b).rows n.result c.first_marked.result (rows-length b ∙ sym n.ensures.0) c.first_marked.ensures (search rules) in
-    sym (ap (λ (l : List ℕ). rules.noted l a.column) none)
+    let b = c.args.state.now in
+    let n = c.row_count in
+    noted_none c.args.list.now (state_of b).rows n.result (rows-length b ∙ sym n.ensures.0) c.first_marked.result c.first_marked.ensures (sym c.is_some.ensures ∙ c.if-is_some.false) c.args.column

@@ -1,5 +1,5 @@
 -- Each turn sets one row's mark, and those before it stay.
-use Prim.Native.Nat.{ℕ, ◌-◌, ◌≤◌, ◌<◌}
+use Prim.Native.Nat.{ℕ, ◌<◌}
 use mathlib.Core.Path.{◌≡◌}
 use lib.ListN.{length, get_or}
 use Rattle.bits.specs.Bit.{bit}
@@ -8,8 +8,4 @@ use Rattle.memory.specs.Reading.{state_of}
 use Rattle.plain.proofs.list.marks_of.Given as goal
 
 abbrev pub invariant-loop-row : goal.invariant-loop-row
-invariant-loop-row l =
-    (l.row ≤ l.count) × (length l.list ≡ slots) × ((i : ℕ) → i < l.row → get_or l.list i 0 ≡ bit (get_or (state_of l.state).rows i 0) l.mask)
-
-abbrev pub decreases-loop-row : goal.decreases-loop-row
-decreases-loop-row l = l.count - l.row
+invariant-loop-row l = (length l.list ≡ slots) × ((i : ℕ) → i < l.row → get_or l.list i 0 ≡ bit (get_or (state_of l.state).rows i 0) l.mask)

@@ -5,8 +5,5 @@ use Rattle.spread.specs.Limits.{columns}
 use Rattle.plain.specs.Matrix.{cell}
 use Rattle.plain.proofs.matrix.order_in.Given as goal
 
-abbrev pub invariant-loop-order : goal.invariant-loop-order
-invariant-loop-order l = (l.order ≤ columns) × ((c r : ℕ) → l.order ≤ c → c < columns → r < l.count → cell l.matrix c r ≡ 0)
-
-abbrev pub decreases-loop-order : goal.decreases-loop-order
-decreases-loop-order l = l.order
+abbrev pub invariant-loop-column : goal.invariant-loop-column
+invariant-loop-column l = (c r : ℕ) → l.column ≤ c → c < columns → r < l.count → cell l.matrix c r ≡ 0

@@ -22,7 +22,7 @@ loop-ended-init c =
     subst (After _) (sym c.term_taken-place.ensures) (term-after P.0.memory P.0.filled (begins-before P.0))
 
 pub has_row-requires : goal.has_row-requires
-has_row-requires c = let P = c.requires in (P.1.0, c.loop-ended.invariant.low, omega (arith, (rows_of P.0.memory).few, c.row_count-count.ensures.0))
+has_row-requires c = (omega (arith, c.loop-ended.invariant.low, c.from.ensures), omega (arith, (rows_of c.requires.0.memory).few, c.row_count-count.ensures.0))
 
 pub round_ended-ended-requires : goal.round_ended-ended-requires
 round_ended-ended-requires c = let P = c.requires in (after-ends P.0.memory P.0.filled c.loop-ended.invariant, P.1)
@@ -32,9 +32,9 @@ term_taken-place-requires-in-loop-ended c =
     let turned : Before c.args.state.now c.round_ended-ended.result = let P = c.requires in
     let b = c.args.state.now in
     let l = c.loop-ended in
-    let empty = c.has_row.ensures.1 (c.loop-ended-test.true) in
+    let empty = (rw c.from.ensures at c.has_row.ensures).1 (c.loop-ended-test.true) in
     let none-there =
-    column-none (weights (state_of b).channels) (state_of b).rows _ (row_count_at b) l.place.column (rows-length b) P.1.1 l.invariant.low
+    column-none (weights (state_of b).channels) (state_of b).rows _ (row_count_at b) l.place.column (rows-length b) P.1 l.invariant.low
     (λ i h. empty i (omega (arith, c.row_count-count.ensures.0)))
     in
     subst (Before b) (sym c.round_ended-ended.ensures) (round-before P.0.memory P.0.filled l.invariant none-there) in
@@ -45,9 +45,9 @@ loop-ended-smaller c =
     let turned : Before c.args.state.now c.round_ended-ended.result = let P = c.requires in
     let b = c.args.state.now in
     let l = c.loop-ended in
-    let empty = c.has_row.ensures.1 (c.loop-ended-test.true) in
+    let empty = (rw c.from.ensures at c.has_row.ensures).1 (c.loop-ended-test.true) in
     let none-there =
-    column-none (weights (state_of b).channels) (state_of b).rows _ (row_count_at b) l.place.column (rows-length b) P.1.1 l.invariant.low
+    column-none (weights (state_of b).channels) (state_of b).rows _ (row_count_at b) l.place.column (rows-length b) P.1 l.invariant.low
     (λ i h. empty i (omega (arith, c.row_count-count.ensures.0)))
     in
     subst (Before b) (sym c.round_ended-ended.ensures) (round-before P.0.memory P.0.filled l.invariant none-there) in
@@ -62,9 +62,9 @@ loop-ended-preserved c =
     let turned : Before c.args.state.now c.round_ended-ended.result = let P = c.requires in
     let b = c.args.state.now in
     let l = c.loop-ended in
-    let empty = c.has_row.ensures.1 (c.loop-ended-test.true) in
+    let empty = (rw c.from.ensures at c.has_row.ensures).1 (c.loop-ended-test.true) in
     let none-there =
-    column-none (weights (state_of b).channels) (state_of b).rows _ (row_count_at b) l.place.column (rows-length b) P.1.1 l.invariant.low
+    column-none (weights (state_of b).channels) (state_of b).rows _ (row_count_at b) l.place.column (rows-length b) P.1 l.invariant.low
     (λ i h. empty i (omega (arith, c.row_count-count.ensures.0)))
     in
     subst (Before b) (sym c.round_ended-ended.ensures) (round-before P.0.memory P.0.filled l.invariant none-there) in
@@ -76,6 +76,6 @@ returns c =
     let P = c.requires in
     let b = c.args.state.now in
     let x = c.loop-ended.place in
-    let (i, l, d) = c.has_row.ensures.0 (c.loop-ended-test.false) in
+    let (i, l, d) = (rw c.from.ensures at c.has_row.ensures).0 (c.loop-ended-test.false) in
     after_finds P.0.memory P.0.filled c.loop-ended.invariant
-    (column-some (weights (state_of b).channels) (state_of b).rows _ (row_count_at b) x.column (rows-length b) P.1.1 c.loop-ended.invariant.low i (omega (arith, c.row_count-count.ensures.0)) d)
+    (column-some (weights (state_of b).channels) (state_of b).rows _ (row_count_at b) x.column (rows-length b) P.1 c.loop-ended.invariant.low i (omega (arith, c.row_count-count.ensures.0)) d)

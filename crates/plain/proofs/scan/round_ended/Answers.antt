@@ -38,16 +38,16 @@ overflow_add-place c =
     omega (arith, E.position)
 
 pub turns-requires : goal.turns-requires
-turns-requires c = c.requires.0.most
+turns-requires c = rw c.from.ensures c.requires.0.most
 
 pub row_count-requires : goal.row_count-requires
 row_count-requires c = c.requires.0.rows.size
 
-pub order_in-afresh-requires : goal.order_in-afresh-requires
-order_in-afresh-requires c = (c.requires.1.0, omega (arith, c.requires.0.rows.few, c.row_count.ensures.0))
+pub order_in-order-requires : goal.order_in-order-requires
+order_in-order-requires c = omega (arith, c.requires.0.rows.few, c.row_count.ensures.0)
 
-pub overflow_cast-afresh : goal.overflow_cast-afresh
-overflow_cast-afresh c = omega (arith, c.order_in-afresh.ensures.most)
+pub overflow_cast-order : goal.overflow_cast-order
+overflow_cast-order c = omega (arith, c.order_in-order.ensures.most)
 
 pub returns-then-held-place : goal.returns-then-held-place
 returns-then-held-place c =
@@ -55,10 +55,10 @@ returns-then-held-place c =
     let P = c.requires in
     let b = a.state.now in
     let n = c.row_count in
-    let afresh = order-found b a.matrix.now n.result c.order_in-afresh.result n.ensures.0 P.1.1 P.0.shown c.order_in-afresh.ensures in
-    ended-there b a.place c.holds-held.ensures c.turns.ensures c.if-held-place.true afresh
+    let afresh = order-found b a.matrix.now n.result c.order_in-order.result n.ensures.0 P.1 P.0.shown c.order_in-order.ensures in
+    ended-there b a.place c.holds-held.ensures (rw c.from.ensures at c.turns.ensures) c.if-held-place.true afresh
 
 pub returns : goal.returns
 returns c =
     let a = c.args in
-    stays-there a.state.now a.place c.holds-held.ensures c.turns.ensures c.if-held-place.false
+    stays-there a.state.now a.place c.holds-held.ensures (rw c.from.ensures at c.turns.ensures) c.if-held-place.false

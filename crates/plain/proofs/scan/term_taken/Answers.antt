@@ -1,5 +1,5 @@
 -- The position stands in the table, so the term is the rules'.
-use Prim.Native.Nat.{ℕ, ◌+◌, ◌-◌, ◌^◌, ◌≤◌, ◌<◌}
+use Prim.Native.Nat.{ℕ, ◌+◌, ◌-◌, ◌^◌, ◌≤◌}
 use mathlib.Core.Path.{◌≡◌, refl}
 use native.Mathlib.Omega.{arith}
 use lib.Pow.{pow_mono}
@@ -19,27 +19,25 @@ unfolding column_at
 taken_is x e f = rw (f, e) refl
 
 pub next_position-position-requires : goal.next_position-position-requires
-next_position-position-requires c = (c.requires.1.most, c.requires.1.position)
+next_position-position-requires c = rw c.from.ensures (c.requires.1.most, c.requires.1.position)
 
 pub term_in-term-requires : goal.term_in-term-requires
 term_in-term-requires c =
-    let within : (1 ≤ c.next_position-position.result) × (c.next_position-position.result < 2 ^ c.args.place.order) = let x = c.args.place in
+    let x = c.args.place in
     let R = c.requires.1 in
-    rw c.next_position-position.ensures (next-position x.order x.position R.least R.position) in
-    let below : c.next_position-position.result < 2 ^ table_order = let most : 2 ^ c.args.place.order ≤ 2 ^ table_order = pow_mono c.requires.1.most in
-    omega (arith, within.1) in
-    let (low, high) = within in (c.requires.0, low, omega (arith, below))
+    let (low, high) = next-position x.order x.position R.least R.position in
+    let most : 2 ^ x.order ≤ 2 ^ table_order = pow_mono R.most in
+    rw (c.from-2.ensures, c.next_position-position.ensures, c.from.ensures) (c.requires.0, low, omega (arith, high))
 
 pub overflow_sub-result : goal.overflow_sub-result
 overflow_sub-result c =
-    let within : (1 ≤ c.next_position-position.result) × (c.next_position-position.result < 2 ^ c.args.place.order) = let x = c.args.place in
+    let x = c.args.place in
     let R = c.requires.1 in
-    rw c.next_position-position.ensures (next-position x.order x.position R.least R.position) in
-    let (low, high) = within in
-    omega (arith, c.term_in-term.ensures, term-le c.args.place.order c.next_position-position.result (omega arith) high)
+    let (low, high) = next-position x.order x.position R.least R.position in
+    rw (c.term_in-term.ensures, c.from-2.ensures, c.next_position-position.ensures, c.from.ensures) (omega (arith, term-le x.order (next_position x.order x.position) (omega arith) high))
 
 pub overflow_add-result : goal.overflow_add-result
 overflow_add-result c = omega (arith, c.requires.1.few)
 
 pub returns : goal.returns
-returns c = taken_is c.args.place c.next_position-position.ensures c.term_in-term.ensures
+returns c = taken_is c.args.place (rw c.from.ensures at c.next_position-position.ensures) (rw c.from-2.ensures at c.term_in-term.ensures)

@@ -1,6 +1,6 @@
 -- The call is the rules' own, once the order has risen where a slot joined the rows.
 use Rattle.std.proofs.lemmas.Result.{err_from_is_err_and}
-use Rattle.uplink.proofs.Putting.{put-refused, put-left, put-joined, put-risen}
+use Rattle.uplink.proofs.Putting.{put-refused, put-joined}
 use Rattle.uplink.proofs.put.put_on.Goals as goal
 
 pub returns-in_err-taken : goal.returns-in_err-taken

@@ -1,6 +1,4 @@
 -- The order found is that of the rows, and the larger of the two is stored.
-use Rattle.std.proofs.Common.{ap, ◌∙◌, arith}
-use Rattle.memory.specs.Layout.{bytes_of}
 use Rattle.uplink.proofs.Lending.{holds-size}
 use Rattle.plain.proofs.OrderLaws.{rows-held}
 use Rattle.plain.proofs.engine.ByHandEngine.rise.Goals as goal
