@@ -1,7 +1,5 @@
 -- No row before k is the slot, so the slot, which is a row, is found.
-use mathlib.Core.Path.{sym, ◌∙◌}
 use native.Mathlib.Omega.{arith}
-use borrow.Author.Rules.{rules}
 use borrow.Author.Count.{below_none, below_more}
 use Rattle.memory.specs.Names as the
 use Rattle.memory.specs.Reading.{byte_in, row_count_at}

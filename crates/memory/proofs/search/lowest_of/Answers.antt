@@ -4,9 +4,7 @@ use mathlib.Core.Path.{◌≡◌, sym, ap, ◌∙◌}
 use mathlib.Core.Bool.{true, false}
 use native.Mathlib.Omega.{arith}
 use native.Mathlib.Numerals.{add-one}
-use borrow.Author.Rules.{rules}
 use lib.ListN.{length}
-use Rattle.rules.specs.Numbers.{slots}
 use Rattle.rules.specs.State.{at}
 use Rattle.rules.specs.Calls.{can_open, lowest}
 use Rattle.memory.specs.Reading.{state_of}

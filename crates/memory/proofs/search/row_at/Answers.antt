@@ -1,10 +1,6 @@
 -- A row of the state is a byte of the memory, and a slot.
-use Prim.Native.Nat.{◌+◌}
-use native.Mathlib.Omega.{arith}
 use mathlib.Core.Path.{sym}
 use Rattle.memory.proofs.SearchLaws.{rows_at}
-use Rattle.memory.specs.Names as the
-use Rattle.memory.specs.Layout.{place}
 use Rattle.memory.proofs.search.row_at.Goals as goal
 
 pub returns : goal.returns
