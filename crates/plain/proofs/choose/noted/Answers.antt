@@ -5,9 +5,6 @@ use Rattle.memory.proofs.SearchLaws.{rows-length}
 use Rattle.plain.proofs.MarkLaws.{noted_some, noted_none}
 use Rattle.plain.proofs.choose.noted.Goals as goal
 
-pub first_marked-requires : goal.first_marked-requires
-first_marked-requires c = omega (arith, c.requires.few, c.row_count.ensures.0)
-
 pub returns-then-is_some : goal.returns-then-is_some
 returns-then-is_some c =
     let b = c.args.state.now in
