@@ -130,23 +130,8 @@ pub fn under(state: &[u8], text: &[u8], at: usize, out: &mut [u8]) -> usize
     requires { (at ≤ length text.now) × (page_room ≤ length out.old) }
     ensures { Stands (page_under state.now (command_of (line_at text.now at))) result out.new }
 {
-    let line = line_at(text, at);
-    let command = line.command;
-    match command {
-        Command::Open(_) => {
-            return 0;
-        }
-        Command::Put(_, _, _, _) => {
-            return 0;
-        }
-        Command::Close(_, _) => {
-            return 0;
-        }
-        Command::Next => {
-            return page(state, out);
-        }
-        Command::Other => {
-            return 0;
-        }
+    if let Some(Command::Next) = line_at(text, at).command {
+        return page(state, out);
     }
+    0
 }

@@ -8,6 +8,7 @@ use native.Mathlib.Omega.{arith}
 use lib.Dec.{leb, ltb}
 use lib.ListN.{length, length-append}
 use borrow.Author.Tests.{ltb-true, ltb-false, leb-true, lt-ltb, le-ltb, le-leb}
+use Rattle.std.specs.Char.{is_ascii_digit}
 use Rattle.text.specs.Digits.{digits_by, digits, is_digit, more}
 
 digits_by-one : (k n : ℕ) → n < 10 → digits_by k n ≡ (48 + n) ∷ []
@@ -52,6 +53,11 @@ by_digits P one step n = upto n n (le_refl n)
         go false e below = step n (ltb-false n 10 e) (below (ltb-false n 10 e))
 
 -- ---- A digit, as a byte.
+
+-- the library's test is this one
+pub digit-told : {r b : Bool} (c : ℕ) → r ≡ is_ascii_digit c → r ≡ b → is_digit c ≡ b
+unfolding is_digit
+digit-told c e h = sym e ∙ h
 
 pub digit-is : (c : ℕ) → 48 ≤ c → c ≤ 57 → is_digit c ≡ true
 unfolding is_digit

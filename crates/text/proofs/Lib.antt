@@ -3,6 +3,7 @@ pub mod NumberLaws
 pub mod SpacedLaws
 pub mod LineLaws
 pub mod PlaceLaws
+pub mod ReadNumbers
 pub mod ShownCommands
 pub mod ReadLines
 pub mod PrintingLaws

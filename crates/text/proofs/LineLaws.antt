@@ -3,12 +3,14 @@ use mathlib.Core.Path.{◌≡◌, refl, sym, ap, ◌∙◌}
 use mathlib.Core.Bool.{Bool, true, false}
 use mathlib.Core.List.{List, [], ◌∷◌}
 use Prim.Native.Nat.{ℕ, suc, zero-le, suc-le-suc, ◌+◌, ◌-◌, min, ◌≤◌, ◌<◌}
-use native.Mathlib.Numerals.{add-one}
 use native.Mathlib.Omega.{arith}
-use lib.Dec.{eqb, leb}
-use lib.ListN.{length, get_or, take, drop, drop_of_length-le}
-use lib.Seq.{drop-cons, drop-drop}
-use borrow.Author.Tests.{eq-eqb, ne_eqb, leb-true, leb-false}
+use lib.Dec.{eqb, leb, ltb}
+use lib.ListN.{length, get_or, take, drop, drop_of_length-le, length-drop}
+use lib.Seq.{drop-cons, drop-drop, take_all}
+use borrow.Author.Tests.{ltb-false, leb-true, leb-false}
+use Rattle.std.specs.Prelude.{Option, Some, None, position}
+use Rattle.std.specs.List.{position_or_len}
+use Rattle.std.proofs.lemmas.List.Recursion.{is_position_or_len}
 use Rattle.text.specs.Lines.{line_of, after_line, onto, lines_of, line_at, line_end, line_after}
 
 -- ---- By the byte at the front.
@@ -120,14 +122,32 @@ module _ (s : List ℕ) (at : ℕ) where
   pub lines_after : at < length s → lines_of (drop at s) ≡ line_at s at ∷ lines_of (drop (line_after s at) s)
   lines_after h = lines_at h ∙ ap (λ (t : List ℕ). line_at s at ∷ lines_of t) (drop_min (line_end s at + 1) s)
 
-  -- ---- The end of the line, by what stands at the place.
-  pub end-past : length s ≤ at → line_end s at ≡ at
-  unfolding line_of
-  end-past h = rw (drop_of_length-le s h) (omega arith)
+-- ---- The end of the line, by the first line feed.
 
-  pub end_feed : at < length s → get_or s at 0 ≡ 10 → line_end s at ≡ at
-  end_feed h e = rw (drop-cons s at 0 h, line_of_feed (get_or s at 0) (drop (suc at) s) (eq-eqb (get_or s at 0) 10 e)) (omega arith)
+line-feed : (l : List ℕ) → length (line_of l) ≡ position_or_len (λ b. eqb b 10) l
+unfolding line_of
+line-feed = is_position_or_len (λ l. length (line_of l)) (λ b. eqb b 10) refl (λ c cs. by_feed c (λ e. rw (line_of_feed c cs e, e)) (λ e. rw (line_of-byte c cs e, e) (omega arith)))
 
-  pub end-byte : at < length s → (get_or s at 0 ≡ 10 → ⊥) → line_end s at ≡ line_end s (at + 1)
-  end-byte h e =
-      rw (drop-cons s at 0 h, line_of-byte (get_or s at 0) (drop (suc at) s) (ne_eqb (get_or s at 0) 10 e), add-one) (omega arith)
+module _ (s : List ℕ) (at : ℕ) where
+  -- what is left of the text
+  rest : position (λ b. eqb b 10) (take (length s - at) (drop at s)) ≡ position (λ b. eqb b 10) (drop at s)
+  rest = ap (position (λ b. eqb b 10)) (take_all (length s - at) (drop at s) (omega (arith, length-drop at s)))
+
+  pub end_feed : (n : ℕ) → Some n ≡ position (λ b. eqb b 10) (take (length s - at) (drop at s)) → at + n ≡ line_end s at
+  end_feed n e = go (ltb (position_or_len (λ b. eqb b 10) (drop at s)) (length (drop at s))) refl
+    where
+      go : (t : Bool) → ltb (position_or_len (λ b. eqb b 10) (drop at s)) (length (drop at s)) ≡ t → at + n ≡ line_end s at
+      go true h =
+          let found : Some n ≡ Some (position_or_len (λ b. eqb b 10) (drop at s)) = e ∙ rest ∙ rw h in
+          let same : n ≡ position_or_len (λ b. eqb b 10) (drop at s) = cc in
+          omega (arith, same, line-feed (drop at s))
+      go false h = let apart : ◌≡◌ {A = Option ℕ} (Some n) None = e ∙ rest ∙ rw h in cc
+
+  pub end-past : at ≤ length s → None ≡ position (λ b. eqb b 10) (take (length s - at) (drop at s)) → length s ≡ line_end s at
+  end-past l e = go (ltb (position_or_len (λ b. eqb b 10) (drop at s)) (length (drop at s))) refl
+    where
+      go : (t : Bool) → ltb (position_or_len (λ b. eqb b 10) (drop at s)) (length (drop at s)) ≡ t → length s ≡ line_end s at
+      go true h = let apart : ◌≡◌ {A = Option ℕ} None (Some (position_or_len (λ b. eqb b 10) (drop at s))) = e ∙ rest ∙ rw h in cc
+      go false h =
+          let none : length (drop at s) ≤ position_or_len (λ b. eqb b 10) (drop at s) = ltb-false _ _ h in
+          omega (arith, none, line-feed (drop at s), line_of-length (drop at s), length-drop at s)

@@ -10,6 +10,8 @@ use Rattle.memory.specs.Memory.{Left, on, fresh_memory}
 use Rattle.text.specs.Lines.{lines_of}
 use Rattle.text.specs.Commands.{command_of}
 use Rattle.octets.specs.Writing.{written}
+use Rattle.octets.specs.Wrote.{Wrote}
+use Rattle.octets.specs.declared.writer.Writer.{Writer}
 use Rattle.text.specs.Writing.{answer_line}
 
 -- ---- "the letter and the answer's fields as listed above, or `R` and the number"
@@ -82,6 +84,19 @@ widest = 80
 pub record Prints (before : List ℕ) (at : ℕ) (line : List ℕ) (r : ℕ) (after : List ℕ) : Type 0 where
   pub place : r ≡ at + length line
   pub text : after ≡ written before at line
+  pub short : length line ≤ widest
+
+-- no answer has more numbers
+abbrev pub fields_most : ℕ
+fields_most = 7
+
+-- a writer has room for any line
+abbrev pub HasRoom : Writer → Type 0
+HasRoom w = w.at + widest ≤ length w.out.now
+
+-- the line is written
+pub record PrintsBy (before : Writer) (line : List ℕ) (after : Writer) : Type 0 where
+  pub wrote : Wrote before line after
   pub short : length line ≤ widest
 
 abbrev pub half_widest : ℕ

@@ -1,7 +1,8 @@
 -- The commands: how each is written, and what a line asks for.
-use Rattle.std.specs.Prelude.{◌≡◌, cond, List, [], ◌∷◌, ◌++◌, ℕ, ◌≤◌, eqb}
+use Rattle.std.specs.Prelude.{◌≡◌, cond, List, [], ◌∷◌, ◌++◌, ℕ, zero, suc, ◌≤◌, eqb}
 use Rattle.std.proofs.Math.Option.{Option, none, some}
 use Rattle.rules.specs.Calls.{Call, to_open, to_put, to_close, to_next, to_start, to_ask, to_fullest}
+use Rattle.std.specs.Prelude as answered
 use Rattle.text.specs.declared.command.Command.{Command}
 use Rattle.text.specs.declared.command.Command.TheVariants as command
 use Rattle.text.specs.Digits.{largest, digits, Front, number, nothing, spaced_off}
@@ -70,10 +71,21 @@ command_of (c ∷ cs) =
     cond (eqb c 79) (open_of cs)
     (cond (eqb c 80) (put_of cs) (cond (eqb c 67) (close_of cs) (cond (eqb c 78) (at_end to_next cs) none)))
 
--- ---- The call that the code's answer stands for.
-abbrev pub call_of : Command → Option Call
-call_of (command.Open w) = some (to_open w)
-call_of (command.Put i t n r) = some (to_put i t n r)
-call_of (command.Close i t) = some (to_close i t)
-call_of command.Next = some to_next
-call_of command.Other = none
+-- ---- What the code answers.
+
+-- n numbers after those read before, and then the line ends
+unfoldable pub numbers_after : List ℕ → ℕ → List ℕ → answered.Option (List ℕ)
+numbers_after ns zero [] = answered.Some ns
+numbers_after ns zero (x ∷ l) = answered.None
+numbers_after ns (suc n) l = elim (spaced_off l) [ number v rest ↦ numbers_after (ns ++ v ∷ []) n rest | nothing ↦ answered.None ]
+
+abbrev pub numbers_of : ℕ → List ℕ → answered.Option (List ℕ)
+numbers_of = numbers_after []
+
+-- the call that its answer stands for
+abbrev pub call_of : answered.Option Command → Option Call
+call_of (answered.Some (command.Open w)) = some (to_open w)
+call_of (answered.Some (command.Put i t n r)) = some (to_put i t n r)
+call_of (answered.Some (command.Close i t)) = some (to_close i t)
+call_of (answered.Some command.Next) = some to_next
+call_of answered.None = none

@@ -2,42 +2,33 @@
 ghost use Rattle.std.specs.Prelude.{◌≡◌, ◌+◌, ◌≤◌, length};
 ghost use Rattle.text.specs.Lines.{line_at, line_after};
 ghost use Rattle.text.specs.Commands.{call_of};
-ghost use Rattle.text.specs.Answers.{widest, answer_to, line_answer, Prints};
+ghost use Rattle.text.specs.Answers.{widest, answer_to, line_answer, Prints, HasRoom, PrintsBy};
 
 use super::command::Command;
-use super::printing::{print_close, print_next, print_open, print_put, print_unknown};
+use super::printing::print;
 use super::reader::line_at;
+use octets::writer::Writer;
 use uplink::close::close;
 use uplink::next::next;
 use uplink::open::open;
 use uplink::put::put;
 
-// The call of a command, and its line of output. Answers the place after the line.
-fn answer(state: &mut [u8], command: Command, out: &mut [u8], place: usize) -> usize
-    requires { place + widest ≤ length out.old }
+// The call of a command, and its line of output; `?` for a line of any other form.
+pub fn answer(state: &mut [u8], command: Option<Command>, w: &mut Writer<'_>)
+    requires { HasRoom w.old }
     ensures state_after { state.new ≡ (answer_to state.old (call_of command)).bytes }
-    ensures prints { Prints out.old place (answer_to state.old (call_of command)).line result out.new }
+    ensures prints { PrintsBy w.old (answer_to state.old (call_of command)).line w.new }
 {
+    let Some(command) = command else {
+        return w.bytes(b"?\n");
+    };
     match command {
-        Command::Open(weight) => {
-            let told = open(state, weight);
-            return print_open(out, place, told);
-        }
+        Command::Open(weight) => print(w, b'O', open(state, weight)),
         Command::Put(slot, ticket, length, reference) => {
-            let told = put(state, slot, ticket, length, reference);
-            return print_put(out, place, told);
+            print(w, b'P', put(state, slot, ticket, length, reference))
         }
-        Command::Close(slot, ticket) => {
-            let told = close(state, slot, ticket);
-            return print_close(out, place, told);
-        }
-        Command::Next => {
-            let told = next(state);
-            return print_next(out, place, told);
-        }
-        Command::Other => {
-            return print_unknown(out, place);
-        }
+        Command::Close(slot, ticket) => print(w, b'C', close(state, slot, ticket)),
+        Command::Next => print(w, b'N', next(state)),
     }
 }
 
@@ -56,10 +47,10 @@ pub fn answer_line(state: &mut [u8], text: &[u8], at: usize, out: &mut [u8], pla
     ensures prints { Prints out.old place (line_answer state.old (line_at text.now at)).line result.place out.new }
 {
     let line = line_at(text, at);
-    let command = line.command;
-    let end = answer(state, command, out, place);
+    let mut w = Writer { out, at: place };
+    answer(state, line.command, &mut w);
     Places {
         at: line.next,
-        place: end,
+        place: w.at,
     }
 }

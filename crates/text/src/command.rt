@@ -2,107 +2,66 @@
 //
 // A line is a letter and its numbers, each after one space, and nothing more. The text between two line feeds is a slice of its own, so that no function
 // here reads past its line.
-ghost use Rattle.std.specs.Prelude.{◌≡◌, ◌≤◌, length, drop};
-ghost use Rattle.text.specs.Commands.{call_of, open_of, put_of, close_of, command_of};
+ghost use Rattle.std.specs.Prelude.{◌≡◌, ◌≤◌, length};
+ghost use Rattle.text.specs.Commands.{numbers_of, call_of, command_of};
 ghost use Rattle.text.specs.Reading.{Reads};
 
-use super::decimal::{Decimal, spaced_at};
+use super::decimal::spaced_at;
 use super::lines::line_end;
 
-// A command with its numbers in the order of the line, or a line of any other form.
+// A command with its numbers in the order of the line.
 #[derive(Clone, Copy)]
 pub enum Command {
     Open(u32),
     Put(u32, u32, u32, u32),
     Close(u32, u32),
     Next,
-    Other,
 }
 
-// ` weight` after the letter.
-fn open_in(line: &[u8]) -> Command
-    requires { 1 ≤ length line.now }
-    ensures { call_of result ≡ open_of (drop 1 line.now) }
+// N numbers, each after one space, and nothing more.
+fn numbers<const N: usize>(s: &[u8]) -> Option<[u32; N]>
+    ensures { result ≡ numbers_of N s.now }
 {
-    let Decimal::Value(weight, end) = spaced_at(line, 1) else {
-        return Command::Other;
-    };
-    if end < line.len() {
-        return Command::Other;
+    let mut numbers = [0; N];
+    let mut at = 0;
+    for number in numbers.iter_mut() {
+        let (value, next) = spaced_at(s, at)?;
+        *number = value;
+        at = next;
     }
-    Command::Open(weight)
+    if at < s.len() {
+        return None;
+    }
+    Some(numbers)
 }
 
-// ` slot ticket length reference` after the letter.
-fn put_in(line: &[u8]) -> Command
-    requires { 1 ≤ length line.now }
-    ensures { call_of result ≡ put_of (drop 1 line.now) }
-{
-    let Decimal::Value(slot, a) = spaced_at(line, 1) else {
-        return Command::Other;
-    };
-    let Decimal::Value(ticket, b) = spaced_at(line, a) else {
-        return Command::Other;
-    };
-    let Decimal::Value(length, c) = spaced_at(line, b) else {
-        return Command::Other;
-    };
-    let Decimal::Value(reference, end) = spaced_at(line, c) else {
-        return Command::Other;
-    };
-    if end < line.len() {
-        return Command::Other;
-    }
-    Command::Put(slot, ticket, length, reference)
-}
-
-// ` slot ticket` after the letter.
-fn close_in(line: &[u8]) -> Command
-    requires { 1 ≤ length line.now }
-    ensures { call_of result ≡ close_of (drop 1 line.now) }
-{
-    let Decimal::Value(slot, a) = spaced_at(line, 1) else {
-        return Command::Other;
-    };
-    let Decimal::Value(ticket, end) = spaced_at(line, a) else {
-        return Command::Other;
-    };
-    if end < line.len() {
-        return Command::Other;
-    }
-    Command::Close(slot, ticket)
-}
-
-// The command of a line, which is given without its line feed.
-pub fn command_in(line: &[u8]) -> Command
+// The command of a line, which is given without its line feed; none for a line of any other form.
+pub fn command_in(line: &[u8]) -> Option<Command>
     ensures { call_of result ≡ command_of line.now }
 {
-    if line.len() == 0 {
-        return Command::Other;
-    }
-    let letter = line[0];
-    if letter == b'O' {
-        return open_in(line);
-    }
-    if letter == b'P' {
-        return put_in(line);
-    }
-    if letter == b'C' {
-        return close_in(line);
-    }
-    if letter == b'N' {
-        if line.len() == 1 {
-            return Command::Next;
+    let (letter, rest) = line.split_first()?;
+    match letter {
+        b'O' => {
+            let [weight] = numbers::<1>(rest)?;
+            Some(Command::Open(weight))
         }
-        return Command::Other;
+        b'P' => {
+            let [slot, ticket, length, reference] = numbers::<4>(rest)?;
+            Some(Command::Put(slot, ticket, length, reference))
+        }
+        b'C' => {
+            let [slot, ticket] = numbers::<2>(rest)?;
+            Some(Command::Close(slot, ticket))
+        }
+        b'N' => rest.is_empty().then_some(Command::Next),
+        _ => None,
     }
-    Command::Other
 }
 
 // A line of the text: what it asks for, and the place after it and its line feed.
 #[derive(Clone, Copy)]
 pub struct Line {
-    pub command: Command,
+    pub command: Option<Command>,
     pub next: usize,
 }
 
@@ -112,12 +71,8 @@ pub fn line_from(text: &[u8], at: usize) -> Line
     ensures { Reads text.now at result }
 {
     let end = line_end(text, at);
-    let command = command_in(&text[at..end]);
-    if end < text.len() {
-        return Line {
-            command,
-            next: end + 1,
-        };
+    Line {
+        command: command_in(&text[at..end]),
+        next: (end + 1).min(text.len()),
     }
-    Line { command, next: end }
 }

@@ -6,9 +6,10 @@ ghost use Rattle.std.specs.Prelude.{◌≡◌, ◌≤◌, ◌<◌, length, take}
 ghost use Rattle.text.specs.Lines.{lines_of};
 ghost use Rattle.text.specs.Answers.{output, most, lift, room_for, Stands};
 
-use super::answer::answer_line;
-use super::writing::put_bytes;
+use super::answer::answer;
+use super::reader::Reader;
 use memory::layout::LENGTH;
+use octets::writer::Writer;
 use rules::FALLING;
 use uplink::open::start;
 
@@ -27,14 +28,12 @@ fn answer_all(state: &mut [u8], text: &[u8], out: &mut [u8]) -> usize
     requires { room_for (length text.now) ≤ length out.old }
     ensures { Stands (output state.old (lines_of text.now)) result out.new }
 {
-    let mut at = 0;
-    let mut place = 0;
-    while at < text.len() {
-        let done = answer_line(state, text, at, out, place);
-        at = done.at;
-        place = done.place;
+    let mut reader = Reader::new(text);
+    let mut w = Writer { out, at: 0 };
+    while let Some(line) = reader.next_line() {
+        answer(state, line.command, &mut w);
     }
-    place
+    w.at
 }
 
 // What is printed for the first n bytes of `input`: their lines answered from the fresh state on, or `? input`. There is room in `input` for one byte
@@ -44,9 +43,11 @@ pub fn run(input: &[u8], n: usize, out: &mut [u8]) -> usize
     ensures { Stands (lift (take n input.now)) result out.new }
 {
     if n > MOST {
-        return put_bytes(out, 0, b"? input\n");
+        let mut w = Writer { out, at: 0 };
+        w.bytes(b"? input\n");
+        return w.at;
     }
     let mut state = [0u8; LENGTH];
-    start(&mut state, FALLING as u32);
+    let _ = start(&mut state, FALLING as u32);
     answer_all(&mut state, &input[..n], out)
 }

@@ -1,9 +1,9 @@
 // A reader: the command text and its place in it.
 //
-// Document 01: "The text is walked by a reader that holds the command text and its place." Each function over it is thin, and proved by hand; the work is
-// done by the functions of the other files, on a slice and a place. `line_at` has plain parameters: whoever calls it sees no reader.
+// Document 01: "The text is walked by a reader that holds the command text and its place." Each method is thin; the work is done by the functions of the
+// other files, on a slice and a place. `line_at` has plain parameters: whoever calls it sees no reader.
 ghost use Rattle.std.specs.Prelude.{◌≡◌, ◌≤◌, length};
-ghost use Rattle.text.specs.Reading.{Reads};
+ghost use Rattle.text.specs.Reading.{Reads, Moves};
 
 use super::command::{Line, line_from};
 
@@ -13,26 +13,41 @@ pub struct Reader<'a> {
     pub at: usize,
 }
 
-// At the start of the text.
-pub fn new<'a>(text: &'a [u8]) -> Reader<'a>
-    ensures { (result.text ≡ text.entry) × (result.at ≡ 0) }
-{
-    Reader { text, at: 0 }
-}
+impl<'a> Reader<'a> {
+    // At the start of the text.
+    pub fn new(text: &'a [u8]) -> Reader<'a>
+        ensures { (result.text ≡ text.entry) × (result.at ≡ 0) }
+    {
+        Reader { text, at: 0 }
+    }
 
-// The same text, at another place.
-pub fn moved<'a>(r: Reader<'a>, at: usize) -> Reader<'a>
-    ensures { (result.text ≡ r.entry.text) × (result.at ≡ at) }
-{
-    Reader { text: r.text, at }
-}
+    // The same text, at another place.
+    pub fn moved(self, at: usize) -> Reader<'a>
+        ensures { (result.text ≡ self.entry.text) × (result.at ≡ at) }
+    {
+        Reader { at, ..self }
+    }
 
-// The line at the reader's place.
-pub fn line<'a>(r: Reader<'a>) -> Line
-    requires { r.at ≤ length r.text.now }
-    ensures { Reads r.entry.text.now r.entry.at result }
-{
-    line_from(r.text, r.at)
+    // The line at the reader's place.
+    pub fn line(self) -> Line
+        requires { self.at ≤ length self.text.now }
+        ensures { Reads self.entry.text.now self.entry.at result }
+    {
+        line_from(self.text, self.at)
+    }
+
+    // The line at the reader's place, which goes on behind it; none where the text is at its end.
+    pub fn next_line(&mut self) -> Option<Line>
+        requires { self.old.at ≤ length self.old.text.now }
+        ensures { Moves self.old result self.new }
+    {
+        if self.at >= self.text.len() {
+            return None;
+        }
+        let line = self.line();
+        self.at = line.next;
+        Some(line)
+    }
 }
 
 // The line at a place of the text, by a reader.
@@ -40,5 +55,5 @@ pub fn line_at(text: &[u8], at: usize) -> Line
     requires { at ≤ length text.now }
     ensures { Reads text.now at result }
 {
-    line(moved(new(text), at))
+    Reader::new(text).moved(at).line()
 }

@@ -1,80 +1,49 @@
-// Bytes and decimals put into a text at a place. Each function answers the place after what it put.
-ghost use Rattle.std.specs.Prelude.{◌≡◌, [], ◌∷◌, ◌+◌, ◌≤◌, ◌<◌, length};
+// Decimals and lines written with a writer.
+ghost use Rattle.std.specs.Prelude.{◌∷◌, ◌+◌, ◌≤◌, length};
+ghost use Rattle.octets.specs.Wrote.{Wrote};
 ghost use Rattle.text.specs.Digits.{digits};
 ghost use Rattle.text.specs.Commands.{spaced};
-ghost use Rattle.octets.specs.Writing.{written};
 ghost use Rattle.text.specs.Writing.{answer_line};
 
-// One byte.
-pub fn put_byte(out: &mut [u8], at: usize, b: u8) -> usize
-    requires { at < length out.old }
-    ensures value { result ≡ at + 1 }
-    ensures out_after { out.new ≡ written out.old at (b ∷ []) }
-{
-    out[at] = b;
-    at + 1
-}
-
-// Bytes as they are.
-pub fn put_bytes(out: &mut [u8], at: usize, bytes: &[u8]) -> usize
-    requires { at + length bytes.now ≤ length out.old }
-    ensures value { result ≡ at + length bytes.now }
-    ensures out_after { out.new ≡ written out.old at bytes.now }
-{
-    let mut next = at;
-    let mut i = 0;
-    while i < bytes.len() {
-        next = put_byte(out, next, bytes[i]);
-        i += 1;
-    }
-    next
-}
+use octets::writer::Writer;
 
 // A number in plain decimal: at most 10 bytes.
-pub fn put_decimal(out: &mut [u8], at: usize, n: u32) -> usize
-    requires { at + length (digits n) ≤ length out.old }
-    ensures value { result ≡ at + length (digits n) }
-    ensures out_after { out.new ≡ written out.old at (digits n) }
+pub fn put_decimal(w: &mut Writer<'_>, n: u32)
+    requires { w.old.at + length (digits n) ≤ length w.old.out.now }
+    ensures { Wrote w.old (digits n) w.new }
 {
-    if n < 10 {
-        return put_byte(out, at, (48 + n) as u8);
+    let (higher, last) = (n / 10, n % 10);
+    if n >= 10 {
+        put_decimal(w, higher);
     }
-    let next = put_decimal(out, at, n / 10);
-    put_byte(out, next, (48 + n % 10) as u8)
+    w.byte(b'0' + last as u8);
 }
 
 // A space and a number.
-pub fn put_spaced(out: &mut [u8], at: usize, n: u32) -> usize
-    requires { at + length (32 ∷ digits n) ≤ length out.old }
-    ensures value { result ≡ at + length (32 ∷ digits n) }
-    ensures out_after { out.new ≡ written out.old at (32 ∷ digits n) }
+pub fn put_spaced(w: &mut Writer<'_>, n: u32)
+    requires { w.old.at + length (32 ∷ digits n) ≤ length w.old.out.now }
+    ensures { Wrote w.old (32 ∷ digits n) w.new }
 {
-    let next = put_byte(out, at, 32);
-    put_decimal(out, next, n)
+    w.byte(b' ');
+    put_decimal(w, n);
 }
 
 // Each number after a space.
-pub fn put_numbers(out: &mut [u8], at: usize, ns: &[u32]) -> usize
-    requires { at + length (spaced ns.now) ≤ length out.old }
-    ensures value { result ≡ at + length (spaced ns.now) }
-    ensures out_after { out.new ≡ written out.old at (spaced ns.now) }
+pub fn put_numbers(w: &mut Writer<'_>, ns: &[u32])
+    requires { w.old.at + length (spaced ns.now) ≤ length w.old.out.now }
+    ensures { Wrote w.old (spaced ns.now) w.new }
 {
-    let mut next = at;
-    let mut i = 0;
-    while i < ns.len() {
-        next = put_spaced(out, next, ns[i]);
-        i += 1;
+    for n in ns {
+        put_spaced(w, *n);
     }
-    next
 }
 
 // The line of an answer: a letter, its numbers, and the line feed. A number takes at most 11 bytes.
-pub fn put_line(out: &mut [u8], at: usize, letter: u8, ns: &[u32]) -> usize
-    requires { at + length (answer_line letter ns.now) ≤ length out.old }
-    ensures value { result ≡ at + length (answer_line letter ns.now) }
-    ensures out_after { out.new ≡ written out.old at (answer_line letter ns.now) }
+pub fn put_line(w: &mut Writer<'_>, letter: u8, ns: &[u32])
+    requires { w.old.at + length (answer_line letter ns.now) ≤ length w.old.out.now }
+    ensures { Wrote w.old (answer_line letter ns.now) w.new }
 {
-    let a = put_byte(out, at, letter);
-    let b = put_numbers(out, a, ns);
-    put_byte(out, b, 10)
+    w.byte(letter);
+    put_numbers(w, ns);
+    w.byte(b'\n');
 }

@@ -1,77 +1,34 @@
--- The first byte is the letter, and the rest of the line is what its function reads.
-use mathlib.Core.Path.{◌≡◌, sym, ap, ◌∙◌}
-use mathlib.Core.List.{List, ◌∷◌}
-use Prim.Native.Nat.{ℕ, zero-le, ◌<◌}
-use native.Mathlib.Omega.{arith}
-use lib.Arith.{lt_of_le-ne}
-use lib.ListN.{length, get_or, drop, drop_of_length-le}
-use borrow.Author.Tests.{eq-eqb, ne_eqb}
-use Rattle.text.specs.Commands.{command_of}
-use Rattle.text.proofs.PlaceLaws.{drop_here}
+-- A letter and the numbers of its form are its command, and any other line is none.
+use Rattle.std.proofs.Common.{ap, ◌∙◌, arith}
+use Rattle.std.specs.Bool.{then_some}
+use Rattle.text.specs.declared.command.Command.TheVariants.{Next}
+use Rattle.text.specs.Commands.{call_of}
+use Rattle.text.proofs.ReadNumbers.{open-asked, put-asked, close-asked, next-asked, other-asked, empty-asked}
 use Rattle.text.proofs.command.command_in.Goals as goal
 
--- a line that isn't empty is its first byte and the rest
-front : (s : List ℕ) → 0 < length s → command_of s ≡ command_of (get_or s 0 0 ∷ drop 1 s)
-front s h = ap command_of (drop_here s 0 h)
+pub returns-in_err-letter : goal.returns-in_err-letter
+returns-in_err-letter c = ap call_of c.from_residual.ensures ∙ empty-asked c.args.line.now c.in_err-letter.ensures.cases
 
--- a length that is neither 0 nor 1
-longer : (n : ℕ) → (n ≡ 0 → ⊥) → (n ≡ 1 → ⊥) → 1 < n
-longer n f g = lt_of_le-ne (lt_of_le-ne zero-le (λ (e : 0 ≡ n). f (sym e))) (λ (e : 1 ≡ n). g (sym e))
+pub returns-in_err-weight-in-79 : goal.returns-in_err-weight-in-79
+returns-in_err-weight-in-79 c = ap call_of c.from_residual-in_err-weight-in-79.ensures ∙ open-asked c.in_ok-letter.ensures.cases.0 c.in-79.is c.in_err-weight-in-79.ensures
 
-pub returns-then-line-eq0 : goal.returns-then-line-eq0
-unfolding command_of
-returns-then-line-eq0 c = sym (ap command_of (drop_of_length-le c.args.line.now {i = 0} (omega arith)))
+pub returns-in_err-slot-in-80 : goal.returns-in_err-slot-in-80
+returns-in_err-slot-in-80 c = ap call_of c.from_residual-in_err-slot-in-80.ensures ∙ put-asked c.in_ok-letter.ensures.cases.0 c.in-80.is c.in_err-slot-in-80.ensures
 
-pub returns-then-letter-eq79 : goal.returns-then-letter-eq79
-unfolding command_of
-returns-then-letter-eq79 c =
-    let s = c.args.line.now in
-    let is_open = eq-eqb (get_or s 0 0) 79 c.if-letter-eq79.true in
-    c.open_in.ensures ∙ sym (front s (omega arith) ∙ rw (is_open))
+pub returns-in_err-slot-in-67 : goal.returns-in_err-slot-in-67
+returns-in_err-slot-in-67 c = ap call_of c.from_residual-in_err-slot-in-67.ensures ∙ close-asked c.in_ok-letter.ensures.cases.0 c.in-67.is c.in_err-slot-in-67.ensures
 
-pub returns-then-letter-eq80 : goal.returns-then-letter-eq80
-unfolding command_of
-returns-then-letter-eq80 c =
-    let s = c.args.line.now in
-    let not-open = ne_eqb (get_or s 0 0) 79 c.if-letter-eq79.false in
-    let is-put = eq-eqb (get_or s 0 0) 80 c.if-letter-eq80.true in
-    c.put_in.ensures ∙ sym (front s (omega arith) ∙ rw (not-open, is-put))
+pub returns-in_ok-weight-in-79 : goal.returns-in_ok-weight-in-79
+returns-in_ok-weight-in-79 c = open-asked c.in_ok-letter.ensures.cases.0 c.in-79.is c.in_ok-weight-in-79.ensures
 
-pub returns-then-letter-eq67 : goal.returns-then-letter-eq67
-unfolding command_of
-returns-then-letter-eq67 c =
-    let s = c.args.line.now in
-    let not-open = ne_eqb (get_or s 0 0) 79 c.if-letter-eq79.false in
-    let not-put = ne_eqb (get_or s 0 0) 80 c.if-letter-eq80.false in
-    let is-close = eq-eqb (get_or s 0 0) 67 c.if-letter-eq67.true in
-    c.close_in.ensures ∙ sym (front s (omega arith) ∙ rw (not-open, not-put, is-close))
+pub returns-in_ok-slot-in-80 : goal.returns-in_ok-slot-in-80
+returns-in_ok-slot-in-80 c = put-asked c.in_ok-letter.ensures.cases.0 c.in-80.is c.in_ok-slot-in-80.ensures
 
-pub returns-then-line-eq1 : goal.returns-then-line-eq1
-unfolding command_of
-returns-then-line-eq1 c =
-    let s = c.args.line.now in
-    let not-open = ne_eqb (get_or s 0 0) 79 c.if-letter-eq79.false in
-    let not-put = ne_eqb (get_or s 0 0) 80 c.if-letter-eq80.false in
-    let not-close = ne_eqb (get_or s 0 0) 67 c.if-letter-eq67.false in
-    let is-next = eq-eqb (get_or s 0 0) 78 c.if-letter-eq78.true in
-    sym (front s (omega arith) ∙ rw (not-open, not-put, not-close, is-next, drop_of_length-le s {i = 1} (omega arith)))
+pub returns-in_ok-slot-in-67 : goal.returns-in_ok-slot-in-67
+returns-in_ok-slot-in-67 c = close-asked c.in_ok-letter.ensures.cases.0 c.in-67.is c.in_ok-slot-in-67.ensures
 
-pub returns-then-letter-eq78 : goal.returns-then-letter-eq78
-unfolding command_of
-returns-then-letter-eq78 c =
-    let s = c.args.line.now in
-    let not-open = ne_eqb (get_or s 0 0) 79 c.if-letter-eq79.false in
-    let not-put = ne_eqb (get_or s 0 0) 80 c.if-letter-eq80.false in
-    let not-close = ne_eqb (get_or s 0 0) 67 c.if-letter-eq67.false in
-    let is-next = eq-eqb (get_or s 0 0) 78 c.if-letter-eq78.true in
-    sym (front s (omega arith) ∙ rw (not-open, not-put, not-close, is-next, drop_here s 1 (longer _ c.if-line-eq0.false c.if-line-eq1.false)))
+pub returns-in-78 : goal.returns-in-78
+returns-in-78 c = ap call_of (c.then_some.ensures ∙ ap (λ b. then_some b Next) c.is_empty.ensures) ∙ next-asked c.in_ok-letter.ensures.cases.0 c.in-78.is
 
-pub returns : goal.returns
-unfolding command_of
-returns c =
-    let s = c.args.line.now in
-    let not-open = ne_eqb (get_or s 0 0) 79 c.if-letter-eq79.false in
-    let not-put = ne_eqb (get_or s 0 0) 80 c.if-letter-eq80.false in
-    let not-close = ne_eqb (get_or s 0 0) 67 c.if-letter-eq67.false in
-    let not-next = ne_eqb (get_or s 0 0) 78 c.if-letter-eq78.false in
-    sym (front s (omega arith) ∙ rw (not-open, not-put, not-close, not-next))
+pub returns-in_default : goal.returns-in_default
+returns-in_default c = other-asked c.in_ok-letter.ensures.cases.0 (omega arith) (omega arith) (omega arith) (omega arith)

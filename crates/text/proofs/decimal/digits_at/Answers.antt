@@ -1,55 +1,40 @@
 -- At each turn the digits left, after the value so far, read as all of them did at the start.
-use mathlib.Core.Path.{◌≡◌, refl, sym, ap, ◌∙◌}
-use mathlib.Core.Bool.{true}
-use native.Mathlib.Omega.{arith}
-use lib.ListN.{length, get_or}
-use Rattle.text.specs.Digits.{is_digit}
+use Rattle.std.proofs.Common.{refl, ◌∙◌, ap, length, arith}
 use Rattle.text.specs.Places.{placed}
-use Rattle.text.proofs.DigitLaws.{digit-from, digit_to}
+use Rattle.text.proofs.DigitLaws.{digit-told}
 use Rattle.text.proofs.PlaceLaws.{stops_end, stops_here, digits-stop, digits_over, digits-on}
 use Rattle.text.proofs.decimal.digits_at.Goals as goal
 
-pub loop-i-init : goal.loop-i-init
-loop-i-init c = (omega arith, omega arith, refl)
-
-pub returns-then-not-is_digit : goal.returns-then-not-is_digit
-returns-then-not-is_digit c =
+pub returns-then-not-is_ascii_digit : goal.returns-then-not-is_ascii_digit
+returns-then-not-is_ascii_digit c =
     let s = c.args.s.now in
     let l = c.loop-i in
-    digits-stop s l.i l.v l.invariant.0 (stops_here s l.i (omega arith) (sym c.is_digit.ensures ∙ c.if-not-is_digit.true))
-    ∙ ap (placed (length s)) l.invariant.2
+    let other = digit-told _ c.is_ascii_digit.ensures.value c.if-not-is_ascii_digit.true in
+    digits-stop s l.i l.v l.i refl (omega arith) (stops_here s l.i (omega arith) other) ∙ ap (placed (length s)) l.invariant
 
-pub overflow_sub-w : goal.overflow_sub-w
-overflow_sub-w c =
-    let digit-here : is_digit (get_or c.args.s.now c.loop-i.i 0) ≡ true = sym c.is_digit.ensures ∙ c.if-not-is_digit.false in
-    digit-from _ digit-here
-
-pub overflow_cast-w-in-loop-i : goal.overflow_cast-w-in-loop-i
-overflow_cast-w-in-loop-i c =
-    let digit-here : is_digit (get_or c.args.s.now c.loop-i.i 0) ≡ true = sym c.is_digit.ensures ∙ c.if-not-is_digit.false in
-    omega (arith, digit_to _ digit-here)
-
-pub overflow_add-w : goal.overflow_add-w
-overflow_add-w c =
-    let digit-here : is_digit (get_or c.args.s.now c.loop-i.i 0) ≡ true = sym c.is_digit.ensures ∙ c.if-not-is_digit.false in
-    omega (arith, digit_to _ digit-here)
-
-pub returns-then-w-gt-LARGEST : goal.returns-then-w-gt-LARGEST
-returns-then-w-gt-LARGEST c =
-    let digit-here : is_digit (get_or c.args.s.now c.loop-i.i 0) ≡ true = sym c.is_digit.ensures ∙ c.if-not-is_digit.false in
+pub returns-in_err-checked_mul : goal.returns-in_err-checked_mul
+returns-in_err-checked_mul c =
     let s = c.args.s.now in
     let l = c.loop-i in
-    ap (placed (length s)) (digits_over s l.i l.v (omega arith) digit-here c.if-w-gt-LARGEST.true ∙ l.invariant.2)
+    let digit = digit-told _ c.is_ascii_digit.ensures.value c.if-not-is_ascii_digit.false in
+    c.from_residual.ensures ∙ ap (placed (length s)) (digits_over s l.i l.v (omega arith) digit (omega arith) ∙ l.invariant)
+
+pub returns-in_err-v : goal.returns-in_err-v
+returns-in_err-v c =
+    let s = c.args.s.now in
+    let l = c.loop-i in
+    let digit = digit-told _ c.is_ascii_digit.ensures.value c.if-not-is_ascii_digit.false in
+    c.from_residual-in_err-v.ensures ∙ ap (placed (length s)) (digits_over s l.i l.v (omega arith) digit (omega arith) ∙ l.invariant)
 
 pub loop-i-preserved : goal.loop-i-preserved
 loop-i-preserved c =
-    let digit-here : is_digit (get_or c.args.s.now c.loop-i.i 0) ≡ true = sym c.is_digit.ensures ∙ c.if-not-is_digit.false in
     let s = c.args.s.now in
     let l = c.loop-i in
-    (omega arith, omega arith, digits-on s l.i l.v (omega arith) digit-here c.if-w-gt-LARGEST.false ∙ l.invariant.2)
+    let digit = digit-told _ c.is_ascii_digit.ensures.value c.if-not-is_ascii_digit.false in
+    digits-on s l.i l.v c.in_ok-v.v (omega arith) digit (omega arith) (omega arith) ∙ l.invariant
 
 pub returns : goal.returns
 returns c =
     let s = c.args.s.now in
     let l = c.loop-i in
-    digits-stop s l.i l.v l.invariant.0 (stops_end s l.i c.loop-i-test.false) ∙ ap (placed (length s)) l.invariant.2
+    digits-stop s l.i l.v (length s) (omega arith) (omega arith) (stops_end s l.i (omega arith)) ∙ ap (placed (length s)) l.invariant

@@ -4,6 +4,7 @@ use mathlib.Core.List.{List}
 use Prim.Native.Nat.{ℕ, ◌≤◌, ◌<◌}
 use native.Mathlib.Omega.{arith}
 use lib.ListN.{length, take}
+use Rattle.std.proofs.Common.{rules}
 use lib.Seq.{length-take-le}
 use Rattle.text.specs.Answers.{most, too_long}
 use Rattle.text.proofs.OutputLaws.{written_stands, start-fresh, lift-long, lift-short}
@@ -11,11 +12,12 @@ use Rattle.text.proofs.program.run.Goals as goal
 
 pub returns-then-n-gt-MOST : goal.returns-then-n-gt-MOST
 returns-then-n-gt-MOST c =
-    let put = c.put_bytes in
     let a = c.args in
+    let W = c.bytes.ensures in
     let read : length (take a.n a.input.now) ≡ a.n = length-take-le a.n a.input.now c.requires.1 in
     let long : most < length (take a.n a.input.now) = omega (arith, c.if-n-gt-MOST.true) in
-    rw (lift-long (take a.n a.input.now) long) (written_stands too_long a.out.now (omega (arith, c.requires.2)) put.ensures.value put.ensures.out_after)
+    let S = written_stands too_long a.out.now (omega (arith, c.requires.2)) W.written.place W.written.buffer in
+    rw (lift-long (take a.n a.input.now) long) (search (rules, S, W.same_reference))
 
 pub slice_bounds-answer_all-end-2 : goal.slice_bounds-answer_all-end-2
 slice_bounds-answer_all-end-2 c =
