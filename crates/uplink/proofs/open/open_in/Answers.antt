@@ -1,7 +1,6 @@
 -- Each test is a check of the rules, and the head stored makes the lowest slot an open one.
-use Rattle.std.proofs.Common.{◌≡◌, ◌≤◌, false, sym, ap, ◌∙◌, lt_of_le_of_lt, arith}
+use Rattle.std.proofs.Common.{◌≡◌, false, sym, ap, ◌∙◌, arith}
 use Rattle.spread.specs.Limits.{heaviest, outside}
-use Rattle.spread.proofs.Limits.{between}
 use Rattle.rules.specs.State.{at}
 use Rattle.rules.specs.Calls.{opening}
 use Rattle.memory.specs.declared.heads.Head.{Head}
@@ -37,12 +36,6 @@ overflow_add-ticket c =
     record {
       fits = omega (arith, ap (λ (x : Head). x.ticket) h, opened-ticket (sound_of c.args.state.now c.requires.0) low.result low.ensures c.if-slot-ge-SLOTS.false);
     }
-
-pub overflow_cast-weight : goal.overflow_cast-weight
-overflow_cast-weight c =
-    let weighed : outside 1 heaviest c.args.weight ≡ false = sym c.bad_weight.ensures ∙ c.if-bad_weight.false in
-    let low : c.args.weight ≤ heaviest = (between 1 heaviest _ weighed).1 in
-    record { fits = lt_of_le_of_lt low (omega arith) }
 
 pub store_head-requires : goal.store_head-requires
 store_head-requires c = (
