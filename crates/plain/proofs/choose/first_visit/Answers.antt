@@ -2,7 +2,6 @@
 use Prim.Native.Nat.{ℕ, suc, ◌+◌}
 use mathlib.Core.List.{List}
 use mathlib.Core.Path.{◌≡◌, refl}
-use native.Mathlib.Omega.{arith}
 use native.Mathlib.Numerals.{add-one}
 use lib.ListN.{get_or, set}
 use Rattle.bits.specs.Mask.{mask_of}

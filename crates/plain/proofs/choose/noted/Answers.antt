@@ -1,5 +1,5 @@
 -- Whether there is a first mark tells whether a row is listed.
-use Rattle.std.proofs.Common.{sym, ◌∙◌, arith}
+use Rattle.std.proofs.Common.{sym, ◌∙◌}
 use Rattle.memory.specs.Reading.{state_of}
 use Rattle.memory.proofs.SearchLaws.{rows-length}
 use Rattle.plain.proofs.MarkLaws.{noted_some, noted_none}

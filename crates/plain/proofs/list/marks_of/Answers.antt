@@ -1,10 +1,8 @@
 -- Each turn sets one row's mark, and those before it stay.
-use Rattle.std.proofs.Common.{ℕ, get_or, ap, ◌∙◌, arith, length-set}
-use native.Mathlib.Numerals.{add-one}
-use Rattle.bits.specs.Bit.{bit}
+use Rattle.std.proofs.Common.{arith}
 use Rattle.memory.specs.Reading.{state_of}
 use Rattle.memory.proofs.SearchLaws.{rows-length}
-use Rattle.plain.proofs.MarkLaws.{set-turn, marks_mask}
+use Rattle.plain.proofs.MarkLaws.{marks_mask}
 use Rattle.plain.proofs.list.marks_of.Goals as goal
 
 pub returns : goal.returns

@@ -1,12 +1,9 @@
 -- The test is the rules', and the highest column is the order of the rows.
-use Prim.Native.Nat.{ℕ, ◌+◌, ◌^◌, ◌≤◌}
+use Prim.Native.Nat.{ℕ, ◌+◌, ◌^◌}
 use mathlib.Core.Bool.{Bool, true, false, ◌&&◌}
 use mathlib.Core.List.{List}
 use mathlib.Core.Path.{◌≡◌, refl, sym, ap, ap₂, ◌∙◌}
-use native.Mathlib.Omega.{arith}
 use lib.Dec.{eqb}
-use lib.Pow.{pow_mono}
-use Rattle.spread.specs.Limits.{columns}
 use Rattle.rules.specs.State.{weights, order_of, holds}
 use Rattle.memory.proofs.RoundOver.{holds_read}
 use Rattle.memory.specs.Reading.{state_of}
