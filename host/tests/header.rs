@@ -82,27 +82,25 @@ fn capitals(name: &str) -> String {
     found
 }
 
-/// The numbers of refusals in the proved code: the arms of `number_of`, wherever it stands, and the driver's constants of the header's names.
+/// The numbers of refusals in the proved code: the cases of the enum, each with its number, and the driver's constants of the header's names.
 fn proved_refusals(declared: &Numbers) -> Numbers {
-    let mut found = Vec::new();
-    for file in ["answers/src/lib.rt", "uplink/src/lib.rt"] {
-        let Ok(text) = fs::read_to_string(rattle::crates().join(file)) else { continue };
-        let text = without_comments(&text);
-        let Some((_, rest)) = text.split_once("fn number_of(") else { continue };
-        let (body, _) = rest.split_once("\n}\n").expect("number_of ends");
-        for arm in body.lines().filter(|line| line.contains("=>")) {
-            let (name, value) = arm.trim().trim_end_matches(',').split_once(" => ").expect("an arm on one line");
-            let name = name.strip_prefix("Refusal::").unwrap_or_else(|| panic!("{arm}: no refusal"));
-            found.push((capitals(name), number(value).unwrap_or_else(|| panic!("{arm}: no number"))));
-        }
-    }
-    assert!(!found.is_empty(), "no number_of was found");
+    let text = without_comments(&source("answers/src/lib.rt"));
+    let (_, rest) = text.split_once("pub enum Refusal {\n").expect("the enum stands in answers");
+    let (cases, rest) = rest.split_once("\n}\n").expect("the enum ends");
+    let found = cases.lines().map(|case| {
+        let (name, value) = case.trim().trim_end_matches(',').split_once(" = ").unwrap_or_else(|| panic!("{case}: no number"));
+        (capitals(name), number(value).unwrap_or_else(|| panic!("{case}: no number")))
+    });
+    let found: Vec<(String, u64)> = found.collect();
+    // What comes back is that number: a case is turned into it, and into no other.
+    let (_, from) = rest.split_once("fn from(why: Refusal) -> u32 {\n").expect("a refusal is turned into a number");
+    assert_eq!(from.lines().next().map(str::trim), Some("why as u32"));
     let mut numbers = once(found);
     for line in source("driver/src/lib.rt").lines().filter(|line| line.starts_with("const ")) {
         let Some((name, value)) = line["const ".len()..].split_once(": u32 = ") else { continue };
         if declared.contains_key(name) {
             let value = number(value.trim_end_matches(';')).unwrap_or_else(|| panic!("{line}: no number"));
-            assert_eq!(*numbers.entry(name.to_string()).or_insert(value), value, "{line}: number_of says otherwise");
+            assert_eq!(*numbers.entry(name.to_string()).or_insert(value), value, "{line}: the enum says otherwise");
         }
     }
     numbers

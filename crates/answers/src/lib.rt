@@ -36,9 +36,3 @@ impl From<Refusal> for u32 {
         why as u32
     }
 }
-
-pub fn number_of(why: Refusal) -> u32
-    ensures { result ≡ number_of (refusal_told why) }
-{
-    u32::from(why)
-}

@@ -1,8 +1,8 @@
 -- The image of a sound base: what its head says, how long it is, and what its three stretches are in the memory.
 use mathlib.Core.Path.{◌≡◌, refl, sym, ap, ◌∙◌, subst}
 use mathlib.Core.Bool.{Bool, true, false, cond}
-use mathlib.Core.List.{List, [], ◌∷◌, ◌++◌, append_assoc}
-use Prim.Native.Nat.{ℕ, zero, suc, ◌+◌, ◌-◌, ◌≤◌, ◌<◌}
+use mathlib.Core.List.{List, [], ◌∷◌, ◌++◌}
+use Prim.Native.Nat.{ℕ, ◌+◌, ◌-◌, ◌≤◌, ◌<◌}
 use native.Mathlib.Omega.{arith}
 use lib.Dec.{ltb}
 use lib.ListN.{length, get_or, take, take-append-drop, length-append}
@@ -11,7 +11,6 @@ use borrow.Author.Tests.{lt-ltb, le-ltb}
 use Rattle.lists.specs.Tabs.{tab}
 use Rattle.lists.proofs.TabLaws.{length-tab, tab-is}
 use Rattle.octets.specs.Writing.{written, Written}
-use Rattle.octets.proofs.WritingLaws.{then-written}
 use Rattle.bits.specs.Mask.{mask_of}
 use Rattle.answers.specs.Answer.{Answer, unsound, parked, short_buffer, refused, given}
 use Rattle.rules.specs.Numbers.{slots}
@@ -27,20 +26,27 @@ use Rattle.memory.proofs.Fitting.{rows_few}
 use Rattle.memory.proofs.Lanes.{mask_is}
 use Rattle.memory.proofs.SoundFits.{sound-fits}
 use Rattle.memory.proofs.OneMemory.{base-sound, base-stands, noted-is}
-use Rattle.image.specs.Parts.{parts_of, laid}
+use Rattle.image.specs.Parts.{part, laid}
+use Rattle.image.specs.declared.parts.Part.{Part}
 use Rattle.image.specs.Image.{wide, visit_byte, entries, following, head_parts, lists, image_of, image_length}
 use Rattle.image.specs.Parked.{Parked, parking, stored, stored_base, park_on}
 use Rattle.image.proofs.PartLaws.{length-laid}
 use Rattle.image.proofs.Lengths.{length-image}
 use Rattle.image.proofs.EntryLaws.{length-run_to, sound-size}
 
--- the widths of a head, and its numbers as they are read off a memory
-abbrev pub head_sizes : ℕ → List ℕ
-head_sizes v = 1 ∷ 4 ∷ 1 ∷ 1 ∷ wide v ∷ 1 ∷ 8 ∷ 1 ∷ 1 ∷ []
-
-abbrev pub head_numbers : ℕ → ℕ → ℕ → ℕ → Scan → ℕ → List ℕ
-head_numbers v n edition order p count =
-    v ∷ n ∷ edition ∷ order ∷ p.position ∷ p.column ∷ p.mask ∷ visit_byte (slot_in_visit p.visit) ∷ count ∷ []
+-- the parts of a head, as its numbers are read off a memory
+abbrev pub head_read : ℕ → ℕ → ℕ → ℕ → Scan → ℕ → List Part
+head_read v n edition order p count =
+    part 1 v
+    ∷ part 4 n
+    ∷ part 1 edition
+    ∷ part 1 order
+    ∷ part (wide v) p.position
+    ∷ part 1 p.column
+    ∷ part 8 p.mask
+    ∷ part 1 (visit_byte (slot_in_visit p.visit))
+    ∷ part 1 count
+    ∷ []
 
 -- "what follows" is all but the first five bytes
 following-length : (v : ℕ) (s : State) → length (image_of v s) ≡ 5 + following v s
@@ -69,9 +75,9 @@ module _ (m : List ℕ) (e : sound_base m ≡ true) where
       = λ i l. let e : 0 + i ≡ i = omega arith in rw e (sym (get_or-take (row_count_at m) m i 0 l)) in
       sym (tab-is (row_count_at m) (byte_in the.rows m) (take (row_count_at m) m) 0 (length-take-le (row_count_at m) m few) read)
 
-  pub head_read : (v n : ℕ) → n ≡ length (image_of v (state_of m)) → laid (parts_of (head_sizes v) (head_numbers v (n - 5) (byte_in the.edition m 0) (state_of m).order (scan_at m) (row_count_at m))) ≡ laid (head_parts v (state_of m))
+  pub head-is : (v n : ℕ) → n ≡ length (image_of v (state_of m)) → head_read v (n - 5) (byte_in the.edition m 0) (state_of m).order (scan_at m) (row_count_at m) ≡ head_parts v (state_of m)
   unfolding state_of
-  head_read v n l =
+  head-is v n l =
       let size : n - 5 ≡ following v (state_of m) = omega (arith, following-length v (state_of m)) in
       let count = count-read in
       let mask = mask-read in
@@ -82,23 +88,11 @@ module _ (m : List ℕ) (e : sound_base m ≡ true) where
   length-read v = omega (arith, length-image v fits, count-read, length-run_to m slots)
 
   -- head, rows and entries
-  pub image-written : {b o o' o'' : List ℕ} {p q r : ℕ} (v : ℕ) → length (image_of v (state_of m)) ≤ length b → Written b 0 (laid (head_parts v (state_of m))) p o
-      → Written o p (take (row_count_at m) m) q o' → Written o' q (entries v (tab slots (channel_at m))) r o'' → Written b 0 (image_of v (state_of m)) r o''
+  pub image-is : (v : ℕ) → laid (head_parts v (state_of m)) ++ (take (row_count_at m) m ++ entries v (tab slots (channel_at m))) ≡ image_of v (state_of m)
   unfolding image_of lists state_of
-  image-written v room W X Y =
-      let head = laid (head_parts v (state_of m)) in
-      let rows = (state_of m).rows in
-      let slot-entries = entries v (tab slots (channel_at m)) in
-      let whole = length-append head (rows ++ slot-entries) in
-      let part = length-append rows slot-entries in
-      let front = length-append head rows in
-      rw (← append_assoc head rows slot-entries) (then-written (then-written W (omega arith) (rw rows-read at X)) (omega arith) Y)
+  image-is v = rw rows-read refl
 
--- ---- the byte of the visit, and the writer's ways out
-
-pub visit-less : (n : ℕ) → (n ≡ 0 → ⊥) → n - 1 ≡ visit_byte (slot_in_visit n)
-visit-less zero h = absurd (h refl)
-visit-less (suc n) h = omega arith
+-- ---- the writer's ways out
 
 -- on the base: a buffer too short, and one with room
 module _ (image m buffer : List ℕ) where

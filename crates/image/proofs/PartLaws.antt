@@ -7,7 +7,8 @@ use native.Mathlib.Nat.{pow-suc, mul_comm, div-div-eq-div-mul, one-le-pow, not-s
 use lib.Arith.{mod-mul}
 use lib.ListN.{length, get_or, drop, length-append, get_or-append}
 use lib.Seq.{drop-append-add, get_or-append_seam}
-use Rattle.image.specs.Parts.{high_first, as_number, Part, part, widths, laid, start, span, part_in}
+use Rattle.image.specs.Parts.{high_first, as_number, part, widths, laid, start, span, part_in}
+use Rattle.image.specs.declared.parts.Part.{Part}
 
 pow_pos : (k : ℕ) → 0 < 256 ^ k
 pow_pos k = one-le-pow k 256 (omega arith)
@@ -49,6 +50,9 @@ number-high_first (suc k) n rest =
 
 -- ---- parts
 
+pub part-is : {p : Part} {w n : ℕ} → (p.width ≡ w) × (p.number ≡ n) → p ≡ part w n
+part-is (e, f) = rw (← e, ← f) refl
+
 pub length-laid : (ps : List Part) → length (laid ps) ≡ span (widths ps)
 unfolding laid
 length-laid [] = refl
@@ -56,7 +60,7 @@ length-laid (p ∷ ps) =
     omega (arith, length-append (high_first p.width p.number) (laid ps), length-high_first p.width p.number, length-laid ps)
 
 -- what stands behind the first of some parts
-drop-part : (p : Part) (ps : List Part) (rest : List ℕ) (n : ℕ) → drop (p.width + n) (laid (p ∷ ps) ++ rest) ≡ drop n (laid ps ++ rest)
+pub drop-part : (p : Part) (ps : List Part) (rest : List ℕ) (n : ℕ) → drop (p.width + n) (laid (p ∷ ps) ++ rest) ≡ drop n (laid ps ++ rest)
 unfolding laid
 drop-part p ps rest n =
     let bytes = high_first p.width p.number in

@@ -4,7 +4,8 @@ use Rattle.std.proofs.Math.Option.{Option, none, some}
 use Rattle.bits.specs.Mask.{mask_of}
 use Rattle.rules.specs.Numbers.{slots, cells}
 use Rattle.rules.specs.State.{Record, Channel, State, kind_number}
-use Rattle.image.specs.Parts.{Part, part, widths, laid, span}
+use Rattle.image.specs.Parts.{part, widths, laid, span}
+use Rattle.image.specs.declared.parts.Part.{Part}
 
 -- What a version changes is widths alone. P and weights take 2 bytes in version 1 and 4 in version 2; the length before a slot's entry takes none in version 1
 -- and 2 in version 2. A part of no bytes is not there.

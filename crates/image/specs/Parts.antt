@@ -1,5 +1,6 @@
 -- Numbers side by side in bytes, each with its highest byte first: what an image is made of, written and read.
 use Rattle.std.specs.Prelude.{ℕ, zero, suc, ◌+◌, ◌*◌, ◌/◌, ◌%◌, ◌^◌, List, [], ◌∷◌, ◌++◌, map, get_or, drop}
+use Rattle.image.specs.declared.parts.Part.{Part}
 
 -- the k lowest bytes of a number, the highest of them first: "Big-endian"
 unfoldable pub high_first : ℕ → ℕ → List ℕ
@@ -12,10 +13,6 @@ as_number zero b = 0
 as_number (suc k) b = 256 * as_number k b + get_or b k 0
 
 -- a part: a number, and the bytes that it takes
-pub record Part : Type 0 where
-  pub width : ℕ
-  pub number : ℕ
-
 abbrev pub part : ℕ → ℕ → Part
 part w n = record { width = w; number = n }
 
@@ -27,6 +24,9 @@ parts_of (w ∷ ws) (n ∷ ns) = part w n ∷ parts_of ws ns
 
 abbrev pub widths : List Part → List ℕ
 widths ps = map (λ p. p.width) ps
+
+abbrev pub numbers_of : List Part → List ℕ
+numbers_of ps = map (λ p. p.number) ps
 
 -- the bytes of some parts, one after the other
 unfoldable pub laid : List Part → List ℕ

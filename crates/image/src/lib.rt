@@ -5,7 +5,8 @@
 // gives the same state, and that each sound state has one image. It is of the memory's base alone.
 #![tactic(auto)]
 
-pub mod parts; // parts.rt: numbers in bytes, put into a buffer at a place
+pub mod parts; // parts.rt: numbers in bytes, put into a buffer
+pub mod version; // version.rt: the versions of an image
 pub mod writer; // writer.rt: the image of a lent memory
 
 // The bytes of a record.

@@ -1,46 +1,36 @@
-// Numbers and bytes put into a buffer at a place. Each function answers the place behind what it put.
+// Numbers side by side in bytes.
 ghost use Rattle.std.specs.Prelude.{◌≡◌, ◌+◌, ◌≤◌, length};
-ghost use Rattle.octets.specs.Writing.{Written};
-ghost use Rattle.image.specs.Parts.{high_first, parts_of, laid, span};
+ghost use Rattle.std.specs.List.{All};
+ghost use Rattle.octets.specs.Wrote.{Wrote};
+ghost use Rattle.image.specs.Parts.{widths, laid, span};
 
-// A number in so many bytes, the highest first; in none, nothing.
-pub fn put_number(buffer: &mut [u8], at: usize, width: usize, number: u64) -> usize
-    requires { at + width ≤ length buffer.old }
-    ensures { Written buffer.old at (high_first width number) result buffer.new }
-{
-    let mut rest = number;
-    let mut i = width;
-    while 0 < i {
-        i -= 1;
-        buffer[at + i] = (rest % 256) as u8;
-        rest = rest / 256;
-    }
-    at + width
+use octets::writer::Writer;
+
+// A number, and the bytes that it takes: the highest first; in none, nothing.
+#[derive(Clone, Copy)]
+pub struct Part {
+    pub width: usize,
+    pub number: u64,
 }
 
-// Parts, told as their widths and their numbers.
-pub fn put_parts(buffer: &mut [u8], at: usize, widths: &[usize], numbers: &[u64]) -> usize
-    requires { (length widths.now ≡ length numbers.now) × (at + span widths.now ≤ length buffer.old) }
-    ensures { Written buffer.old at (laid (parts_of widths.now numbers.now)) result buffer.new }
-{
-    let mut next = at;
-    let mut i = 0;
-    while i < widths.len() {
-        next = put_number(buffer, next, widths[i], numbers[i]);
-        i += 1;
+impl Part {
+    pub fn new<N: Into<u64>>(width: usize, number: N) -> Part
+        ensures { (result.width ≡ width) × N.converts number result.number }
+    {
+        Part {
+            width,
+            number: number.into(),
+        }
     }
-    next
 }
 
-// Bytes as they are.
-pub fn put_bytes(buffer: &mut [u8], at: usize, bytes: &[u8]) -> usize
-    requires { at + length bytes.now ≤ length buffer.old }
-    ensures { Written buffer.old at bytes.now result buffer.new }
+// Parts, one after the other.
+pub fn put_parts(w: &mut Writer<'_>, parts: &[Part])
+    requires { All (λ p. p.width ≤ 8) parts.now × (w.old.at + span (widths parts.now) ≤ length w.old.out.now) }
+    ensures { Wrote w.old (laid parts.now) w.new }
 {
-    let mut i = 0;
-    while i < bytes.len() {
-        buffer[at + i] = bytes[i];
-        i += 1;
+    for part in parts {
+        let bytes = part.number.to_be_bytes();
+        w.bytes(&bytes[8 - part.width..]);
     }
-    at + i
 }

@@ -1,8 +1,6 @@
 -- An image is good exactly where the memory built from it is sound and its own image is these bytes.
-use Rattle.std.proofs.Common.{◌≡◌, ℕ, zero, suc, ◌+◌, ◌*◌, ◌<◌, ◌≤◌, Bool, true, false, ◌&&◌, eqb, List, [], ◌∷◌, length, get_or, take, drop, sym, refl, ap, ◌∙◌, append-nil, not-suc-le-zero, add-one, arith, drop_of_length-le, take_all, eq-eqb, ne_eqb}
+use Rattle.std.proofs.Common.{◌≡◌, ℕ, ◌+◌, ◌*◌, Bool, true, false, List, length, get_or, sym, refl, ap, ◌∙◌, arith, eq-eqb, ne_eqb}
 use mathlib.Core.Bool.{false≢true}
-use lib.Seq.{take-append_seam}
-use Rattle.octets.specs.Writing.{Written}
 use Rattle.answers.specs.Answer.{unsound, bad_image, refused, given}
 use Rattle.rules.specs.State.{State, with_mark}
 use Rattle.rules.specs.Facts.{Sound}
@@ -18,49 +16,6 @@ use Rattle.image.specs.Reading.{version_in, known}
 use Rattle.image.specs.Parked.{leaving, read_on}
 use Rattle.reader.specs.Received.{Received}
 use Rattle.image.proofs.Images.{Image, image-version, image_reads, no_image}
-
--- ---- the same bytes
-
-and_one : (a : Bool) → (a && true) ≡ a
-and_one true = refl
-and_one false = refl
-
-and_assoc : (a b c : Bool) → ((a && b) && c) ≡ (a && (b && c))
-and_assoc true b c = refl
-and_assoc false b c = refl
-
-same-suc : (i : ℕ) (a b : List ℕ) → i < length a → length a ≡ length b → same (take (suc i) a) (take (suc i) b) ≡ (same (take i a) (take i b) && eqb (get_or a i 0) (get_or b i 0))
-same-suc i [] b l e = absurd (not-suc-le-zero l)
-same-suc i (x ∷ a) [] l e = absurd (omega arith)
-same-suc zero (x ∷ a) (y ∷ b) l e = and_one (eqb x y)
-same-suc (suc i) (x ∷ a) (y ∷ b) l e =
-    ap (λ (t : Bool). eqb x y && t) (same-suc i a b (omega arith) (omega arith)) ∙ sym (and_assoc (eqb x y) (same (take i a) (take i b)) (eqb (get_or a i 0) (get_or b i 0)))
-
-pub same_turn : (i : ℕ) (a b : List ℕ) (ok : Bool) → i < length a → length a ≡ length b → ok ≡ same (take i a) (take i b)
-    → (ok && eqb (get_or a i 0) (get_or b i 0)) ≡ same (take (i + 1) a) (take (i + 1) b)
-same_turn i a b ok l e h = rw (add-one i, same-suc i a b l e, h)
-
-pub same-all : (i : ℕ) (a b : List ℕ) (ok : Bool) → length a ≤ i → length a ≡ length b → ok ≡ same (take i a) (take i b) → ok ≡ same a b
-same-all i a b ok l e h =
-    let p : take i a ≡ a = take_all i a l in
-    let m : length b ≤ i = omega arith in
-    let q : take i b ≡ b = take_all i b m in
-    rw (p, q) at h
-
-same_length : (a b : List ℕ) → same a b ≡ true → length a ≡ length b
-same_length a b e = ap length (same_true a b e)
-
--- lists of two lengths are not the same
-pub other_length : (a b : List ℕ) → (length a ≡ length b → ⊥) → false ≡ same a b
-other_length a b h = go (same a b) refl
-  where
-    go : (t : Bool) → same a b ≡ t → false ≡ t
-    go true e = absurd (h (same_length a b e))
-    go false e = refl
-
--- what is written at the front of a buffer
-pub front-written : {b bytes after : List ℕ} {n : ℕ} → Written b 0 bytes n after → take (length bytes) after ≡ bytes
-front-written {b} {bytes} W = rw W.buffer (take-append_seam bytes (drop (0 + length bytes) b))
 
 -- ---- good and bad images
 
@@ -119,11 +74,8 @@ module _ (image b : List ℕ) where
   unfolding read_on
   read-bad e R = rw (eq-eqb (length b) memory_length e, R.received)
 
-  pub read_good : {m after : List ℕ} {n : ℕ} → length b ≡ memory_length → length m ≡ memory_length → Received image true m → Written b 0 m n after → leaving (given tt) after ≡ read_on image b
+  pub read_good : {m : List ℕ} → length b ≡ memory_length → Received image true m → leaving (given tt) m ≡ read_on image b
   unfolding read_on
-  read_good {m} {after} e size R W =
+  read_good {m} e R =
       let (s, S, reads, memory) = R.received in
-      let le : length b ≤ 0 + length m = omega arith in
-      let none_left : drop (0 + length m) b ≡ [] = drop_of_length-le b le in
-      let whole : after ≡ m = W.buffer ∙ rw none_left (append-nil m) in
-      rw (eq-eqb (length b) memory_length e, reads, whole, memory)
+      rw (eq-eqb (length b) memory_length e, reads, memory)

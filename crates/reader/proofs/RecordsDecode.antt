@@ -1,5 +1,5 @@
 -- Parts and a slot's records read into a memory: where a good image goes on with them, the memory goes on to the state with them.
-use Rattle.std.proofs.Common.{◌≡◌, ℕ, zero, suc, ◌+◌, ◌^◌, ◌<◌, ◌≤◌, List, [], ◌∷◌, ◌++◌, length, get_or, take, drop, sym, refl, ap, ◌∙◌, append_assoc, add-zero, add-one, arith, length-append, length-set, drop_of_length-le, length-take-le, take_all, drop-cons, take-suc, get_or-set_same, drop-drop, set-set}
+use Rattle.std.proofs.Common.{◌≡◌, ℕ, zero, suc, ◌+◌, ◌^◌, ◌<◌, ◌≤◌, List, [], ◌∷◌, ◌++◌, length, get_or, take, drop, sym, refl, ap, ◌∙◌, append_assoc, add-zero, add-one, arith, length-append, length-set, drop_of_length-le, length-take-le, take_all, drop-cons, take-suc, get_or-set_same, set-set}
 use Rattle.rules.specs.Numbers.{slots, room, cells}
 use Rattle.rules.specs.State.{Record, Channel, State, blank, at, with_channel}
 use Rattle.memory.specs.Layout.{run_of, bytes_of}
@@ -13,32 +13,37 @@ use Rattle.memory.proofs.Lanes.{waiting-is}
 use Rattle.memory.proofs.RunLaws.{before, no_record}
 use Rattle.memory.proofs.RunEdits.{total-is, run_insert}
 use Rattle.lists.proofs.TabLaws.{length-insert_at}
-use Rattle.image.specs.Parts.{Part, widths, laid, span, numbers_in}
+use Rattle.image.specs.Parts.{as_number, widths, numbers_of, laid, span, numbers_in}
+use Rattle.image.specs.declared.parts.Part.{Part}
 use Rattle.image.specs.Image.{record_bytes, record_parts, records_bytes}
 use Rattle.reader.specs.Decoding.{Reached, NoneBehind}
-use Rattle.image.proofs.PartLaws.{no_part, drop-laid, part-back}
-use Rattle.reader.proofs.TakingLaws.{numbers-at}
+use Rattle.image.proofs.PartLaws.{drop-part, drop-laid, part-back}
 use Rattle.reader.proofs.RunEnd.{queue_ends}
-
-length-widths : (ps : List Part) → length (widths ps) ≡ length ps
-length-widths [] = refl
-length-widths (p ∷ ps) = ap suc (length-widths ps)
 
 -- ---- parts that the image goes on with
 
-module _ (image : List ℕ) (n : ℕ) (ps : List Part) (rest : List ℕ) (e : drop n image ≡ laid ps ++ rest) where
-  pub part-taken : (k : ℕ) → k < length ps → (get_or ps k no_part).number < 256 ^ (get_or ps k no_part).width
-      → get_or (numbers_in (widths ps) (drop n image)) k 0 ≡ (get_or ps k no_part).number
-  part-taken k l fits =
-      let m : k < length (widths ps) = rw (length-widths ps) l in
-      numbers-at (widths ps) k (drop n image) m ∙ rw e (part-back ps k rest l fits)
+-- each part's width holds its number
+abbrev pub Held : List Part → Type 0
+Held [] = Unit {0}
+Held (p ∷ ps) = (p.number < 256 ^ p.width) × Held ps
 
-  pub parts-passed : drop (n + span (widths ps)) image ≡ rest
-  parts-passed =
-      sym (drop-drop (span (widths ps)) n image)
-      ∙ ap (drop (span (widths ps))) e
-      ∙ ap (λ (k : ℕ). drop k (laid ps ++ rest)) (sym (add-zero (span (widths ps))))
-      ∙ drop-laid ps rest 0
+part_passed : (p : Part) (ps : List Part) (rest : List ℕ) → drop p.width (laid (p ∷ ps) ++ rest) ≡ laid ps ++ rest
+part_passed p ps rest = ap (λ (n : ℕ). drop n (laid (p ∷ ps) ++ rest)) (sym (add-zero p.width)) ∙ drop-part p ps rest 0
+
+pub numbers-back : (ps : List Part) (rest : List ℕ) → Held ps → numbers_in (widths ps) (laid ps ++ rest) ≡ numbers_of ps
+unfolding numbers_in
+numbers-back [] rest hs = refl
+numbers-back (p ∷ ps) rest (h, hs) =
+    rw (part-back (p ∷ ps) 0 rest (omega arith) h, part_passed p ps rest, numbers-back ps rest hs)
+
+-- (the number before them may be held or not)
+pub numbers-behind : (p : Part) (ps : List Part) (rest : List ℕ) → Held ps
+    → numbers_in (widths (p ∷ ps)) (laid (p ∷ ps) ++ rest) ≡ as_number p.width (laid (p ∷ ps) ++ rest) ∷ numbers_of ps
+unfolding numbers_in
+numbers-behind p ps rest hs = rw (part_passed p ps rest, numbers-back ps rest hs)
+
+pub parts-passed : (ps : List Part) (rest : List ℕ) → drop (span (widths ps)) (laid ps ++ rest) ≡ rest
+parts-passed ps rest = ap (λ (k : ℕ). drop k (laid ps ++ rest)) (sym (add-zero (span (widths ps)))) ∙ drop-laid ps rest 0
 
 -- ---- the channel of a slot, and its queue
 
@@ -75,8 +80,8 @@ each_last : (rs : List Record) (x : Record) → Each RecordFits (rs ++ x ∷ [])
 each_last [] x (each_cons f h) = f
 each_last (r ∷ rs) x (each_cons f h) = each_last rs x h
 
-module _ {image m : List ℕ} {n : ℕ} {s : State} (slot : ℕ) (x : Record) (rest : List ℕ) (here : slot < slots) (F : Fits (record_added s slot x))
-    (R : Reached image n (laid (record_parts x) ++ rest) m s) where
+module _ {left m : List ℕ} {s : State} (slot : ℕ) (x : Record) (rest : List ℕ) (here : slot < slots) (F : Fits (record_added s slot x))
+    (R : Reached left (laid (record_parts x) ++ rest) m s) where
   added : SlotFits (with_waiting ((at s.channels slot).waiting ++ x ∷ []) (at s.channels slot))
   added = channel-fits s slot (with_waiting ((at s.channels slot).waiting ++ x ∷ []) (at s.channels slot)) here F
 
@@ -88,20 +93,18 @@ module _ {image m : List ℕ} {n : ℕ} {s : State} (slot : ℕ) (x : Record) (r
   pub record-fits : RecordFits x
   record-fits = each_last (at s.channels slot).waiting x added.records
 
-  pub record-reached : (numbers : List ℕ) (next size reference : ℕ) (after : List ℕ) → next ≡ n + record_bytes → numbers ≡ numbers_in (2 ∷ 4 ∷ []) (drop n image)
-      → (get_or numbers 0 0 < 65536 → size ≡ get_or numbers 0 0) → (get_or numbers 1 0 < 4294967296 → reference ≡ get_or numbers 1 0)
+  pub record-taken : numbers_in (2 ∷ 4 ∷ []) left ≡ x.length ∷ x.reference ∷ []
+  record-taken =
+      let f = record-fits in
+      ap (numbers_in (2 ∷ 4 ∷ [])) R.ahead ∙ numbers-back (record_parts x) rest (f.length-fits, (f.reference-fits, tt))
+
+  pub record-reached : {behind after : List ℕ} (size reference : ℕ) → behind ≡ drop record_bytes left → size ≡ x.length → reference ≡ x.reference
       → (place : ℕ) → Ends m slot place
       → ((t : State) → Fits t → m ≡ bytes_of t → Ends m slot place → after ≡ bytes_of (record_added t slot (record { length = size; reference = reference })))
-      → Reached image next rest after (record_added s slot x)
-  record-reached numbers next size reference after behind read low-size low-reference place ends appended =
-      let f = record-fits in
-      let first : get_or numbers 0 0 ≡ x.length = ap (λ (ns : List ℕ). get_or ns 0 0) read ∙ part-taken image n (record_parts x) rest R.ahead 0 (omega arith) f.length-fits in
-      let second : get_or numbers 1 0 ≡ x.reference
-      = ap (λ (ns : List ℕ). get_or ns 1 0) read ∙ part-taken image n (record_parts x) rest R.ahead 1 (omega arith) f.reference-fits in
-      let size_is : size ≡ x.length = low-size (omega (arith, f.length-fits)) ∙ first in
-      let reference-is : reference ≡ x.reference = low-reference (omega (arith, f.reference-fits)) ∙ second in
+      → Reached behind rest after (record_added s slot x)
+  record-reached size reference passed size_is reference-is place ends appended =
       record {
-        ahead = rw behind (parts-passed image n (record_parts x) rest R.ahead);
+        ahead = passed ∙ ap (drop record_bytes) R.ahead ∙ parts-passed (record_parts x) rest;
         memory = rw (size_is, reference-is) at (appended s R.fits R.memory ends);
         fits = F;
       }
@@ -146,12 +149,12 @@ records-ahead xs i rest l =
     let x = get_or xs i no_record in
     rw (add-one i, drop-cons xs i no_record l) (append_assoc (laid (record_parts x)) (records_bytes (drop (suc i) xs)) rest)
 
-module _ (image memory : List ℕ) (next : ℕ) (s : State) (slot : ℕ) (here : slot < slots) (xs : List Record) (rest : List ℕ) (F : Fits (queue_now s slot xs)) (i : ℕ) (l : i < length xs)
-    (R : Reached image next (records_bytes (drop i xs) ++ rest) memory (queue_now s slot (take i xs))) where
-  pub records-step : {r : ℕ} {after : List ℕ} → NoneBehind s slot → (place : ℕ) → place ≡ before s.channels slot + i
-      → ((t : State) (x : Record) (more : List ℕ) → Fits (record_added t slot x) → Ends memory slot place → Reached image next (laid (record_parts x) ++ more) memory t
-      → Reached image r more after (record_added t slot x))
-      → Reached image r (records_bytes (drop (i + 1) xs) ++ rest) after (queue_now s slot (take (i + 1) xs))
+module _ (left memory : List ℕ) (s : State) (slot : ℕ) (here : slot < slots) (xs : List Record) (rest : List ℕ) (F : Fits (queue_now s slot xs)) (i : ℕ) (l : i < length xs)
+    (R : Reached left (records_bytes (drop i xs) ++ rest) memory (queue_now s slot (take i xs))) where
+  pub records-step : {behind-it after : List ℕ} → NoneBehind s slot → (place : ℕ) → place ≡ before s.channels slot + i
+      → ((t : State) (x : Record) (more : List ℕ) → Fits (record_added t slot x) → Ends memory slot place → Reached left (laid (record_parts x) ++ more) memory t
+      → Reached behind-it more after (record_added t slot x))
+      → Reached behind-it (records_bytes (drop (i + 1) xs) ++ rest) after (queue_now s slot (take (i + 1) xs))
   records-step behind place place_is step =
       let x = get_or xs i no_record in
       let inside : slot < length s.channels = within s slot (with_waiting xs (at s.channels slot)) here F in
@@ -163,8 +166,8 @@ module _ (image memory : List ℕ) (next : ℕ) (s : State) (slot : ℕ) (here :
       let done = step (queue_now s slot (take i xs)) x (records_bytes (drop (i + 1) xs) ++ rest) (rw grown (queue_part s slot xs (i + 1) here F)) ends (rw (records-ahead xs i rest l) at R) in
       rw grown at done
 
-pub records-ended : {image memory : List ℕ} {next : ℕ} (s : State) (slot : ℕ) (xs : List Record) (i : ℕ) → length xs ≤ i → (rest : List ℕ)
-    → Reached image next (records_bytes (drop i xs) ++ rest) memory (queue_now s slot (take i xs)) → Reached image next rest memory (queue_now s slot xs)
+pub records-ended : {left memory : List ℕ} (s : State) (slot : ℕ) (xs : List Record) (i : ℕ) → length xs ≤ i → (rest : List ℕ)
+    → Reached left (records_bytes (drop i xs) ++ rest) memory (queue_now s slot (take i xs)) → Reached left rest memory (queue_now s slot xs)
 unfolding records_bytes
 records-ended s slot xs i l rest R =
     let none : drop i xs ≡ [] = drop_of_length-le xs l in

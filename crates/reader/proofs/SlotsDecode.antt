@@ -1,5 +1,5 @@
 -- The entries of all slots read one after the other into a fresh memory: the slots passed are the state's, the others are free.
-use Rattle.std.proofs.Common.{◌≡◌, ℕ, zero, suc, ◌+◌, ◌<◌, ◌≤◌, Bool, true, false, ltb, List, [], ◌∷◌, ◌++◌, length, take, drop, set, sym, refl, ap, ◌∙◌, ⊎_elim, not-suc-le-zero, eq-or-lt_of_le, add-one, arith, length-set, take-append-drop, drop_of_length-le, drop-cons, get_or-set_other, take-suc, get_or-set_same, ext_get_or, ltb-false, ltb-true}
+use Rattle.std.proofs.Common.{◌≡◌, ℕ, zero, suc, ◌+◌, ◌<◌, ◌≤◌, Bool, true, false, ltb, List, [], ◌∷◌, ◌++◌, length, take, drop, set, sym, refl, ap, ◌∙◌, ⊎_elim, not-suc-le-zero, eq-or-lt_of_le, add-one, arith, length-set, take-append-drop, drop-cons, get_or-set_other, take-suc, get_or-set_same, ext_get_or, ltb-false, ltb-true}
 use lib.ListN.{get_or-eq_default, get_or-replicate}
 use Rattle.rules.specs.Numbers.{slots, shared}
 use Rattle.rules.specs.State.{Channel, State, blank, fresh, at, beyond, shared_use, with_channel}
@@ -73,11 +73,11 @@ take-shared cs i =
     = ap shared_use (sym (take-append-drop i cs)) ∙ shared_append (take i cs) (drop i cs) in
     omega arith
 
-module _ (image memory : List ℕ) (next v i e : ℕ) (cs : List Channel) (F : Fits (with_channels (fresh e) cs)) where
-  pub slots-step : {r : ℕ} {after : List ℕ} (place : ℕ) → place ≡ first_at memory slots → i < slots → Reached image next (entries v (drop i cs)) memory (with_channels (fresh e) (done_to cs i))
-      → ((s : State) (c : Channel) (rest : List ℕ) → Fits (with_channel s i c) → (at s.channels i).waiting ≡ [] → NoneBehind s i → place ≡ first_at memory slots → Reached image next (entry v c ++ rest) memory s
-      → Reached image r rest after (with_channel s i c))
-      → Reached image r (entries v (drop (i + 1) cs)) after (with_channels (fresh e) (done_to cs (i + 1)))
+module _ (left memory : List ℕ) (v i e : ℕ) (cs : List Channel) (F : Fits (with_channels (fresh e) cs)) where
+  pub slots-step : {behind-it after : List ℕ} (place : ℕ) → place ≡ first_at memory slots → i < slots → Reached left (entries v (drop i cs)) memory (with_channels (fresh e) (done_to cs i))
+      → ((s : State) (c : Channel) (rest : List ℕ) → Fits (with_channel s i c) → (at s.channels i).waiting ≡ [] → NoneBehind s i → place ≡ first_at memory slots → Reached left (entry v c ++ rest) memory s
+      → Reached behind-it rest after (with_channel s i c))
+      → Reached behind-it (entries v (drop (i + 1) cs)) after (with_channels (fresh e) (done_to cs (i + 1)))
   unfolding entries done_to
   slots-step place ends l R step =
       let first : drop i cs ≡ at cs i ∷ drop (suc i) cs = drop-cons cs i blank (omega (arith, F.size)) in
@@ -88,8 +88,8 @@ module _ (image memory : List ℕ) (next v i e : ℕ) (cs : List Channel) (F : F
       rw (add-one i) (step (with_channels (fresh e) (done_to cs i)) (at cs i) (entries v (drop (suc i) cs)) fits empty behind ends (rw first at R))
 
   -- the run ends behind the records of the slot that was passed
-  pub slots-place : {n : ℕ} {rest after : List ℕ} → i < slots → Reached image next (entries v (drop i cs)) memory (with_channels (fresh e) (done_to cs i))
-      → Reached image n rest after (with_channels (fresh e) (done_to cs (i + 1))) → first_at after slots ≡ first_at memory slots + waiting_at after i
+  pub slots-place : {behind-it rest after : List ℕ} → i < slots → Reached left (entries v (drop i cs)) memory (with_channels (fresh e) (done_to cs i))
+      → Reached behind-it rest after (with_channels (fresh e) (done_to cs (i + 1))) → first_at after slots ≡ first_at memory slots + waiting_at after i
   unfolding done_to
   slots-place {after = after} l R S =
       let one : i + 1 ≡ suc i = omega arith in
@@ -106,11 +106,8 @@ module _ (image memory : List ℕ) (next v i e : ℕ) (cs : List Channel) (F : F
   unfolding before fresh done_to
   slots-first m G = sym (run_ends {s = fresh e} 0 (λ j l. done-behind cs 0 j l) G m)
 
-  pub slots-ended : i ≡ slots → Reached image next (entries v (drop i cs)) memory (with_channels (fresh e) (done_to cs i))
-      → Reached image next [] memory (with_channels (fresh e) cs)
-  unfolding entries
+  pub slots-ended : i ≡ slots → Reached left (entries v (drop i cs)) memory (with_channels (fresh e) (done_to cs i))
+      → memory ≡ bytes_of (with_channels (fresh e) cs)
   slots-ended last R =
-      let le : length cs ≤ slots = omega (arith, F.size) in
-      let none : drop slots cs ≡ [] = drop_of_length-le cs le in
       let all : done_to cs slots ≡ cs = done_all cs F.size in
-      rw (last, none, all) at R
+      rw (last, all) at R.memory

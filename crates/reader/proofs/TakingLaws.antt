@@ -1,14 +1,16 @@
 -- Numbers taken one after the other, and what they are where parts were laid.
-use Rattle.std.proofs.Common.{◌≡◌, ℕ, zero, suc, ◌+◌, ◌*◌, ◌^◌, ◌<◌, ◌≤◌, List, [], ◌∷◌, ◌++◌, length, get_or, take, drop, set, sym, refl, ap, ◌∙◌, append-nil, not-suc-le-zero, pow-suc, add-one, arith, drop_of_length-le, get_or-drop, take_all, drop-cons, drop-drop}
+use Rattle.std.proofs.Common.{◌≡◌, ℕ, zero, suc, ◌+◌, ◌*◌, ◌^◌, ◌<◌, ◌≤◌, List, [], ◌∷◌, ◌++◌, length, get_or, take, drop, set, replicate, sym, refl, ap, ◌∙◌, append-nil, not-suc-le-zero, pow-suc, add-one, arith, drop_of_length-le, get_or-drop, take_all, drop-cons, drop-drop}
+use Rattle.std.specs.Prelude.{Result, Ok, Err}
+use Rattle.std.specs.Result.{OkIff, result_unwrap_or}
 use native.Mathlib.Nat.{pow-le-pow_right}
-use lib.Seq.{set_at, append_snoc}
-use Rattle.image.specs.Parts.{as_number, start, span, part_in, numbers_in}
+use lib.Seq.{set_at, append_snoc, get_or-take}
+use Rattle.image.specs.Parts.{as_number, span, numbers_in}
 
 -- ---- one number, byte by byte
 
-pub number_more : (at i : ℕ) (b : List ℕ) (n x : ℕ) → n ≡ as_number i (drop at b) → x ≡ get_or b (at + i) 0 → 256 * n + x ≡ as_number (i + 1) (drop at b)
+pub number_more : (i : ℕ) (b : List ℕ) (n x : ℕ) → n ≡ as_number i b → x ≡ get_or b i 0 → 256 * n + x ≡ as_number (i + 1) b
 unfolding as_number
-number_more at i b n x e f = rw (add-one i, e, f, get_or-drop at b i 0)
+number_more i b n x e f = rw (add-one i, e, f)
 
 pub room-more : (i n x : ℕ) → n < 256 ^ i → x < 256 → i < 8 → (256 * n + x < 256 ^ (i + 1)) × (256 ^ (i + 1) ≤ 256 ^ 8)
 room-more i n x l h small =
@@ -16,19 +18,39 @@ room-more i n x l h small =
     let le : i + 1 ≤ 8 = omega arith in
     (omega arith, pow-le-pow_right {n = 256} (omega arith) le)
 
+-- a number is of the bytes that are there, and of 0 past the last
+pub number-same : (k : ℕ) (a b : List ℕ) → ((i : ℕ) → i < k → get_or a i 0 ≡ get_or b i 0) → as_number k a ≡ as_number k b
+unfolding as_number
+number-same zero a b h = refl
+number-same (suc k) a b h = rw (number-same k a b (λ i l. h i (omega arith)), h k (omega arith)) refl
+
+pub number-front : (k : ℕ) (b : List ℕ) → as_number k (take k b) ≡ as_number k b
+number-front k b = number-same k (take k b) b (λ i l. get_or-take k b i 0 l)
+
+zero_at : (n i : ℕ) → get_or {A = ℕ} (replicate n 0) i 0 ≡ 0
+zero_at zero i = refl
+zero_at (suc n) zero = refl
+zero_at (suc n) (suc i) = zero_at n i
+
+pub number-padded : (k n m : ℕ) (b : List ℕ) → as_number k (take k (b ++ drop m (replicate n 0))) ≡ as_number k b
+number-padded k n m b = number-front k (b ++ drop m (replicate n 0)) ∙ number-same k (b ++ drop m (replicate n 0)) b (λ i l. at i b)
+  where
+    at : (i : ℕ) (b : List ℕ) → get_or (b ++ drop m (replicate n 0)) i 0 ≡ get_or b i 0
+    at i [] = get_or-drop m (replicate n 0) i 0 ∙ zero_at n (m + i)
+    at zero (x ∷ b) = refl
+    at (suc i) (x ∷ b) = at i b
+
+-- a number that has room in a narrower type is the same there
+pub low : {E : Type 0} (r : Result ℕ E) {bound n u : ℕ} → OkIff r (n < bound) n → u ≡ result_unwrap_or r 0 → n < bound → u ≡ n
+low (Ok x) h f l = f ∙ h.1
+low (Err e) h f l = absurd (h l)
+
 -- ---- several
 
 pub length-numbers : (ws b : List ℕ) → length (numbers_in ws b) ≡ length ws
 unfolding numbers_in
 length-numbers [] b = refl
 length-numbers (w ∷ ws) b = ap suc (length-numbers ws (drop w b))
-
--- number k is read where part k begins
-pub numbers-at : (ws : List ℕ) (k : ℕ) (b : List ℕ) → k < length ws → get_or (numbers_in ws b) k 0 ≡ part_in ws k b
-unfolding numbers_in
-numbers-at [] k b l = absurd (not-suc-le-zero l)
-numbers-at (w ∷ ws) zero b l = refl
-numbers-at (w ∷ ws) (suc k) b l = numbers-at ws k (drop w b) (omega arith) ∙ ap (as_number (get_or ws k 0)) (drop-drop (start ws k) w b)
 
 -- the numbers before part i are taken, and the rest stands as it was
 abbrev pub taken_to : ℕ → List ℕ → List ℕ → List ℕ → List ℕ
@@ -41,11 +63,6 @@ span-suc (suc i) (w ∷ ws) l = omega (arith, span-suc i ws (omega arith))
 
 pub span_more : (i : ℕ) (ws : List ℕ) → i < length ws → span (take (i + 1) ws) ≡ span (take i ws) + get_or ws i 0
 span_more i ws l = ap (λ (n : ℕ). span (take n ws)) (add-one i) ∙ span-suc i ws l
-
-pub span-le : (i : ℕ) (ws : List ℕ) → span (take i ws) ≤ span ws
-span-le zero ws = omega arith
-span-le (suc i) [] = omega arith
-span-le (suc i) (w ∷ ws) = omega (arith, span-le i ws)
 
 numbers-suc : (i : ℕ) (ws b : List ℕ) → i < length ws → numbers_in (take (suc i) ws) b ≡ numbers_in (take i ws) b ++ as_number (get_or ws i 0) (drop (span (take i ws)) b) ∷ []
 unfolding numbers_in

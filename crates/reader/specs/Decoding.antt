@@ -1,5 +1,5 @@
 -- What a memory's base is while an image is read into it, and then its notes.
-use Rattle.std.specs.Prelude.{◌≡◌, ℕ, zero, suc, ◌+◌, ◌%◌, ◌≤◌, cond, List, [], drop, replicate, nat_lt, slice_set}
+use Rattle.std.specs.Prelude.{◌≡◌, ℕ, zero, suc, ◌+◌, ◌%◌, ◌≤◌, cond, List, [], replicate, nat_lt, slice_set}
 use Rattle.rules.specs.Numbers.{slots, cells}
 use Rattle.rules.specs.State.{Channel, State, blank, at}
 use Rattle.memory.specs.Fits.{Fits}
@@ -7,9 +7,9 @@ use Rattle.memory.specs.Layout.{bytes_of}
 use Rattle.memory.specs.Reading.{waiting_at, first_at}
 use Rattle.soundness.specs.Notes.{length_at, sum_of}
 
--- n bytes further on the image goes on with `rest`, and the base is that of s
-pub record Reached (image : List ℕ) (n : ℕ) (rest m : List ℕ) (s : State) : Type 0 where
-  pub ahead : drop n image ≡ rest
+-- what is left of the image is `rest`, and the base is that of s
+pub record Reached (left rest m : List ℕ) (s : State) : Type 0 where
+  pub ahead : left ≡ rest
   pub memory : m ≡ bytes_of s
   pub fits : Fits s
 
@@ -26,13 +26,9 @@ unfoldable pub done_to : List Channel → ℕ → List Channel
 done_to cs zero = replicate slots blank
 done_to cs (suc i) = slice_set (done_to cs i) i (at cs i)
 
--- No place that the reader comes to is farther on than this, so that none overflows
+-- No place of the run that the reader comes to is farther on than this, so that none overflows
 abbrev pub farthest : ℕ
 farthest = 1000000
-
--- nor is any entry longer, whatever its number of records, which is one byte
-abbrev pub entry_most : ℕ
-entry_most = 1600
 
 -- ---- the notes worked out afresh
 

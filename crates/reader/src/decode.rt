@@ -1,169 +1,122 @@
 // The base of a memory built from an image, part by part.
 //
 // Nothing is refused here: what has no room is left out, and the reader finds out by writing the memory again. So each contract speaks of good
-// images alone: where the image goes on with what is read, the memory goes on to the state with it.
-ghost use Rattle.std.specs.Prelude.{◌≡◌, ℕ, ◌+◌, ◌*◌, ◌^◌, ◌<◌, ◌≤◌, false, List, [], ◌++◌, length, drop, replicate, slice_index};
-ghost use Rattle.std.proofs.Math.Option.{Option};
-ghost use Rattle.bits.specs.Mask.{mask_of};
+// images alone: where the image goes on with what is read, the memory goes on to the state with it. Each function answers the bytes behind what it read.
+ghost use Rattle.std.specs.Prelude.{◌≡◌, ℕ, ◌<◌, ◌≤◌, false, List, [], ◌∷◌, ◌++◌, length, drop, replicate};
 ghost use Rattle.lists.specs.Slots.{occurs, Once, NoneFrom};
 ghost use Rattle.rules.specs.Numbers.{slots};
-ghost use Rattle.rules.specs.State.{Record, Channel, State, fresh, at as slot_at, with_channel, kind_number, visit_number};
-ghost use Rattle.rules.specs.Facts.{Edition, Sound};
-ghost use Rattle.memory.specs.Names as the;
-ghost use Rattle.memory.specs.Layout.{width, bytes_of, base_length};
+ghost use Rattle.rules.specs.State.{Record, Channel, State, fresh, at as slot_at, with_channel};
+ghost use Rattle.rules.specs.Facts.{Sound};
+ghost use Rattle.memory.specs.Layout.{bytes_of, base_length};
 ghost use Rattle.memory.specs.Reading.{first_at};
 ghost use Rattle.memory.specs.Edits.{record_added, queue_now, with_rows, row_joined};
 ghost use Rattle.memory.specs.Fits.{SlotFits, Fits};
+ghost use Rattle.memory.specs.Head.{head_of};
+ghost use Rattle.memory.specs.Point.{in_numbers};
 ghost use Rattle.memory.specs.Records.{Ends};
-ghost use Rattle.image.specs.Parts.{laid};
-ghost use Rattle.image.specs.Image.{record_bytes, record_parts, records_bytes, entry, entries, visit_byte, image_of};
-ghost use Rattle.image.specs.Reading.{newest};
-ghost use Rattle.reader.specs.Decoding.{Reached, NoneBehind, with_channels, farthest, entry_most};
+ghost use Rattle.image.specs.Parts.{laid, numbers_of};
+ghost use Rattle.image.specs.Image.{record_parts, records_bytes, slot_parts, entry, entries, scan_parts, image_of};
+ghost use Rattle.reader.specs.Decoding.{Reached, NoneBehind, with_channels, farthest};
 
-use super::taking::{byte_at, low_u8, low_u16, low_u32, take_parts};
+use super::taking::{take_bytes, take_parts};
+use image::version::Version;
 use memory::heads::{Head, store_head, waiting_of};
-use memory::layout::{CELLS, EDITION};
+use memory::layout::{Base, CELLS, EDITION, Position, Weight};
 use memory::point::{Scan, store_order, store_scan};
 use memory::records::append_record;
 use memory::rows::{join_row, row_count};
 use rules::{ROOM, SLOTS};
 
 // One record more for a slot, at a place of the run.
-fn read_record(memory: &mut [u8], image: &[u8], at: usize, slot: usize, place: usize) -> usize
-    requires { (length memory.old ≡ base_length) × (slot < slots) × (at + record_bytes ≤ farthest) }
-    ensures { (result ≡ at + record_bytes) × ((s : State) (x : Record) (rest : List ℕ) → Fits (record_added s slot x) → Ends memory.old slot place
-        → Reached image.now at (laid (record_parts x) ++ rest) memory.old s
-        → Reached image.now result rest memory.new (record_added s slot x)) }
+fn read_record<'a>(memory: &mut Base, image: &'a [u8], slot: usize, place: usize) -> &'a [u8]
+    requires { slot < slots }
+    ensures { (s : State) (x : Record) (rest : List ℕ) → Fits (record_added s slot x) → Ends memory.old slot place
+        → Reached image.now (laid (record_parts x) ++ rest) memory.old s
+        → Reached result.now rest memory.new (record_added s slot x) }
 {
-    let widths = [2, 4];
-    let mut numbers: [u64; 2] = [0; 2];
-    let next = take_parts(image, at, &widths, &mut numbers);
-    let length = low_u16(numbers[0]);
-    let reference = low_u32(numbers[1]);
+    let ([length, reference], left) = take_parts(image, [2, 4]);
+    let length = u16::try_from(length).unwrap_or(0);
+    let reference = u32::try_from(reference).unwrap_or(0);
     if waiting_of(memory, slot) < ROOM {
         if place < CELLS {
             append_record(memory, slot, place, length, reference);
         }
     }
-    next
+    left
 }
 
 // The records of a slot that has none yet, and behind which none has: the run ends at a place.
-fn read_records(
-    memory: &mut [u8],
-    image: &[u8],
-    at: usize,
+fn read_records<'a>(
+    memory: &mut Base,
+    image: &'a [u8],
     slot: usize,
     place: usize,
-    count: usize,
-) -> usize
-    requires { (length memory.old ≡ base_length) × (slot < slots) × (place ≤ farthest) × (count < 256) × (at + record_bytes * count ≤ farthest) }
-    ensures { (result ≡ at + record_bytes * count) × ((s : State) (xs : List Record) (rest : List ℕ) → Fits (queue_now s slot xs) → length xs ≡ count → NoneBehind s slot
-        → place ≡ first_at memory.old slots → Reached image.now at (records_bytes xs ++ rest) memory.old (queue_now s slot [])
-        → Reached image.now result rest memory.new (queue_now s slot xs)) }
+    count: u8,
+) -> &'a [u8]
+    requires { (slot < slots) × (place ≤ farthest) }
+    ensures { (s : State) (xs : List Record) (rest : List ℕ) → Fits (queue_now s slot xs) → length xs ≡ count → NoneBehind s slot
+        → place ≡ first_at memory.old slots → Reached image.now (records_bytes xs ++ rest) memory.old (queue_now s slot [])
+        → Reached result.now rest memory.new (queue_now s slot xs) }
 {
-    let mut next = at;
-    let mut i = 0;
-    while i < count {
-        next = read_record(memory, image, next, slot, place + i);
-        i += 1;
+    let mut left = image;
+    for i in 0..usize::from(count) {
+        left = read_record(memory, left, slot, place + i);
     }
-    next
+    left
 }
 
-// The kind that a number says, and 0 for any other number.
-fn kind_of(number: u64) -> u8
-    ensures { number ≤ 2 → result ≡ number }
+// The kind and the numbers of a slot, as an entry has them: each where it has room, and 0 elsewhere.
+fn head_in(numbers: [u64; 7]) -> Head
+    ensures { (n v : ℕ) (c : Channel) → SlotFits c → numbers ≡ n ∷ numbers_of (drop 1 (slot_parts v c)) → result ≡ head_of c }
 {
-    if number <= 2 {
-        return number as u8;
+    Head {
+        kind: u8::try_from(numbers[1]).unwrap_or(0),
+        ticket: u32::try_from(numbers[2]).unwrap_or(0),
+        weight: Weight::try_from(numbers[3]).unwrap_or(0),
+        deficit: u16::try_from(numbers[4]).unwrap_or(0),
+        serial: u16::try_from(numbers[5]).unwrap_or(0),
     }
-    0
-}
-
-// The kind and the numbers of a slot.
-fn store_slot(
-    memory: &mut [u8],
-    slot: usize,
-    kind: u64,
-    ticket: u64,
-    weight: u64,
-    deficit: u64,
-    serial: u64,
-)
-    requires { (length memory.old ≡ base_length) × (slot < slots) }
-    ensures { (s : State) (c : Channel) → SlotFits c → Fits s → memory.old ≡ bytes_of s → kind ≡ kind_number c.kind → ticket ≡ c.ticket
-        → weight ≡ c.weight → deficit ≡ c.deficit → serial ≡ c.serial → c.waiting ≡ (slot_at s.channels slot).waiting
-        → memory.new ≡ bytes_of (with_channel s slot c) }
-{
-    let k = kind_of(kind);
-    let t = low_u32(ticket);
-    let w = low_u16(weight);
-    let d = low_u16(deficit);
-    let n = low_u16(serial);
-    store_head(
-        memory,
-        slot,
-        Head {
-            kind: k,
-            ticket: t,
-            weight: w,
-            deficit: d,
-            serial: n,
-        },
-    );
 }
 
 // A slot's entry, for a slot that has no records yet; the run ends at a place.
-fn read_slot(
-    memory: &mut [u8],
-    image: &[u8],
-    at: usize,
+fn read_slot<'a>(
+    memory: &mut Base,
+    image: &'a [u8],
     slot: usize,
     place: usize,
-    version: usize,
-) -> usize
-    requires { (length memory.old ≡ base_length) × (slot < slots) × (at + entry_most ≤ farthest) × (place ≤ farthest) × (1 ≤ version) × (version ≤ newest) }
-    ensures { (result ≤ at + entry_most) × ((s : State) (c : Channel) (rest : List ℕ) → Fits (with_channel s slot c) → (slot_at s.channels slot).waiting ≡ [] → NoneBehind s slot
-        → place ≡ first_at memory.old slots → Reached image.now at (entry version c ++ rest) memory.old s
-        → Reached image.now result rest memory.new (with_channel s slot c)) }
+    version: Version,
+) -> &'a [u8]
+    requires { (slot < slots) × (place ≤ farthest) }
+    ensures { (s : State) (c : Channel) (rest : List ℕ) → Fits (with_channel s slot c) → (slot_at s.channels slot).waiting ≡ [] → NoneBehind s slot
+        → place ≡ first_at memory.old slots → Reached image.now (entry version.number c ++ rest) memory.old s
+        → Reached result.now rest memory.new (with_channel s slot c) }
 {
-    let wide = 2 * version;
-    let widths = [wide - 2, 1, 4, wide, 2, 2, 1];
-    let mut numbers: [u64; 7] = [0; 7];
-    let next = take_parts(image, at, &widths, &mut numbers);
-    store_slot(
-        memory, slot, numbers[1], numbers[2], numbers[3], numbers[4], numbers[5],
-    );
-    let count = low_u8(numbers[6]);
-    read_records(memory, image, next, slot, place, count as usize)
+    let wide = version.wide();
+    let (numbers, left) = take_parts(image, [version.length_width(), 1, 4, wide, 2, 2, 1]);
+    store_head(memory, slot, head_in(numbers));
+    let count = u8::try_from(numbers[6]).unwrap_or(0);
+    read_records(memory, left, slot, place, count)
 }
 
 // "then the 64 slots in turn", into a fresh memory.
-fn read_slots(memory: &mut [u8], image: &[u8], at: usize, version: usize) -> usize
-    requires { (length memory.old ≡ base_length) × (at + slots * entry_most ≤ farthest) × (1 ≤ version) × (version ≤ newest) }
+fn read_slots(memory: &mut Base, image: &[u8], version: Version)
     ensures { (e : ℕ) (cs : List Channel) → Fits (with_channels (fresh e) cs)
-        → Reached image.now at (entries version cs) memory.old (fresh e)
-        → Reached image.now result [] memory.new (with_channels (fresh e) cs) }
+        → Reached image.now (entries version.number cs) memory.old (fresh e)
+        → memory.new ≡ bytes_of (with_channels (fresh e) cs) }
 {
-    let mut next = at;
+    let mut left = image;
     let mut place = 0;
-    let mut slot = 0;
-    while slot < SLOTS {
-        next = read_slot(memory, image, next, slot, place, version);
+    for slot in 0..SLOTS {
+        left = read_slot(memory, left, slot, place, version);
         place += waiting_of(memory, slot);
-        slot += 1;
     }
-    next
 }
 
 // One row more.
-fn read_row(memory: &mut [u8], image: &[u8], at: usize)
-    requires { length memory.old ≡ base_length }
-    ensures { (s : State) → Fits s → memory.old ≡ bytes_of s → slice_index image.now at < slots → occurs (slice_index image.now at) s.rows ≡ 0
-        → memory.new ≡ bytes_of (row_joined s (slice_index image.now at)) }
+fn read_row(memory: &mut Base, slot: u8)
+    ensures { (s : State) → Fits s → memory.old ≡ bytes_of s → slot < slots → occurs slot s.rows ≡ 0 → memory.new ≡ bytes_of (row_joined s slot) }
 {
-    let slot = byte_at(image, at) as usize;
+    let slot = usize::from(slot);
     if slot < SLOTS {
         if row_count(memory) < SLOTS {
             join_row(memory, slot);
@@ -172,74 +125,39 @@ fn read_row(memory: &mut [u8], image: &[u8], at: usize)
 }
 
 // The rows, into a memory that has none.
-fn read_rows(memory: &mut [u8], image: &[u8], at: usize, count: usize)
-    requires { (length memory.old ≡ base_length) × (at ≤ farthest) × (count < 256) }
-    ensures { (s : State) (rows rest : List ℕ) → Once rows → NoneFrom slots rows → length rows ≡ count → drop at image.now ≡ rows ++ rest
-        → Fits (with_rows s []) → memory.old ≡ bytes_of (with_rows s []) → Fits (with_rows s rows) × (memory.new ≡ bytes_of (with_rows s rows)) }
+fn read_rows(memory: &mut Base, rows: &[u8])
+    ensures { (s : State) → Once rows.now → NoneFrom slots rows.now → Fits (with_rows s []) → memory.old ≡ bytes_of (with_rows s [])
+        → Fits (with_rows s rows.now) × (memory.new ≡ bytes_of (with_rows s rows.now)) }
 {
-    let mut i = 0;
-    while i < count {
-        read_row(memory, image, at + i);
-        i += 1;
+    for slot in rows {
+        read_row(memory, *slot);
     }
 }
 
-// The slot in visit, as the memory has it: 0 for none.
-fn visit_number(number: u64) -> u8
-    ensures { (o : Option ℕ) → visit_number o < 256 ^ width the.visit → number ≡ visit_byte o → result ≡ visit_number o }
+// The scan point, as a head has it: each number where it has room. 255 is no visit, and any other slot is one less than the memory's number for it.
+fn scan_in(numbers: [u64; 9]) -> Scan
+    ensures { (n m v : ℕ) (s : State) → Fits s → numbers ≡ n ∷ m ∷ numbers_of (scan_parts v s) → result ≡ in_numbers s.scan }
 {
-    if number < 255 {
-        return (number + 1) as u8;
+    Scan {
+        position: Position::try_from(numbers[4]).unwrap_or(0),
+        column: u8::try_from(numbers[5]).unwrap_or(0),
+        mask: numbers[6],
+        visit: u8::try_from(numbers[7]).unwrap_or(255).wrapping_add(1),
     }
-    0
 }
 
-// The order and the scan point.
-fn store_point(memory: &mut [u8], order: u64, position: u64, column: u64, mask: u64, visit: u64)
-    requires { length memory.old ≡ base_length }
-    ensures { (s t : State) → Fits s → Fits t → t.edition ≡ s.edition → t.channels ≡ s.channels → t.rows ≡ s.rows → t.parked ≡ s.parked → memory.old ≡ bytes_of t
-        → order ≡ s.order → position ≡ s.scan.position → column ≡ s.scan.column → mask ≡ mask_of s.scan.to_visit → visit ≡ visit_byte s.scan.visit
-        → memory.new ≡ bytes_of s }
-{
-    let k = low_u8(order);
-    let p = low_u16(position);
-    let c = low_u8(column);
-    let v = visit_number(visit);
-    store_order(memory, k);
-    store_scan(
-        memory,
-        Scan {
-            position: p,
-            column: c,
-            mask: mask,
-            visit: v,
-        },
-    );
-}
-
-// A memory of zeros becomes the fresh one of an edition.
-fn store_edition(memory: &mut [u8], edition: u64)
+// A base of zeros becomes that of an image's state: the fresh one of its edition, its slots, its rows, and then the order and the scan point.
+pub fn decode(memory: &mut Base, image: &[u8], version: Version)
     requires { memory.old ≡ replicate base_length 0 }
-    ensures { Edition edition → memory.new ≡ bytes_of (fresh edition) }
+    ensures built { (s : State) → Sound s → s.parked ≡ false → image.now ≡ image_of version.number s → memory.new ≡ bytes_of s }
+    ensures same_length { length memory.new ≡ base_length }
 {
-    let e = low_u8(edition);
-    memory[EDITION] = e;
-}
-
-// A base of zeros becomes that of an image's state.
-pub fn decode(memory: &mut [u8], image: &[u8], version: usize)
-    requires { (memory.old ≡ replicate base_length 0) × (1 ≤ version) × (version ≤ newest) }
-    ensures { (s : State) → Sound s → s.parked ≡ false → image.now ≡ image_of version s → memory.new ≡ bytes_of s }
-{
-    let wide = 2 * version;
-    let widths = [1, 4, 1, 1, wide, 1, 8, 1, 1];
-    let mut numbers: [u64; 9] = [0; 9];
-    let next = take_parts(image, 0, &widths, &mut numbers);
-    let count = low_u8(numbers[8]) as usize;
-    store_edition(memory, numbers[2]);
-    read_slots(memory, image, next + count, version);
-    read_rows(memory, image, next, count);
-    store_point(
-        memory, numbers[3], numbers[4], numbers[5], numbers[6], numbers[7],
-    );
+    let (numbers, left) = take_parts(image, [1, 4, 1, 1, version.wide(), 1, 8, 1, 1]);
+    let count = u8::try_from(numbers[8]).unwrap_or(0);
+    let (rows, entries) = take_bytes(left, usize::from(count));
+    memory[EDITION] = u8::try_from(numbers[2]).unwrap_or(0);
+    read_slots(memory, entries, version);
+    read_rows(memory, rows);
+    store_order(memory, u8::try_from(numbers[3]).unwrap_or(0));
+    store_scan(memory, scan_in(numbers));
 }

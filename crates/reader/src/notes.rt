@@ -2,36 +2,32 @@
 //
 // Nothing is refused here either. Where the run is longer than there are cells no bytes are counted, and a sum is taken modulo 65,536: of a sound state's base all
 // sums are right, and of any other the check finds out.
-ghost use Rattle.std.specs.Prelude.{◌≡◌, ℕ, ◌<◌, ◌≤◌, length};
+ghost use Rattle.std.specs.Prelude.{◌≡◌, ℕ, ◌<◌, ◌≤◌};
 ghost use Rattle.rules.specs.Numbers.{slots};
 ghost use Rattle.rules.specs.State.{State};
 ghost use Rattle.rules.specs.Facts.{Sound};
-ghost use Rattle.memory.specs.Layout.{bytes_of, memory_of, base_length};
+ghost use Rattle.memory.specs.Layout.{bytes_of, memory_of};
 ghost use Rattle.memory.specs.Memory.{base};
 ghost use Rattle.fullest.specs.Noted.{NotedBy, Noted, now_in};
 ghost use Rattle.reader.specs.Decoding.{bytes_from, no_bytes, farthest};
 
 use fullest::noting::note;
 use memory::heads::waiting_of;
-use memory::layout::{BASE, CELLS};
+use memory::layout::{Base, CELLS, Memory};
 use memory::records::load_record;
 use rules::SLOTS;
-use std::num::wrapping_add_u16;
 
 // The bytes of so many records of the run from a place on.
-fn bytes_from(state: &[u8], place: usize, count: usize) -> u16
-    requires { (length state.now ≡ base_length) × (place ≤ farthest) × (count < 256) }
+fn bytes_from(state: &Base, place: usize, count: usize) -> u16
+    requires { (place ≤ farthest) × (count < 256) }
     ensures { result ≡ bytes_from state.now place count }
 {
     if CELLS < place + count {
         return 0;
     }
     let mut sum: u16 = 0;
-    let mut i = 0;
-    while i < count {
-        let cell = load_record(state, place + i);
-        sum = wrapping_add_u16(sum, cell.length);
-        i += 1;
+    for i in 0..count {
+        sum = sum.wrapping_add(load_record(state, place + i).length);
     }
     sum
 }
@@ -41,25 +37,22 @@ fn note_any(memory: &mut [u8], slot: usize, bytes: u16)
     requires { Noted memory.old × (slot < slots) }
     ensures { ((f : ℕ → ℕ) → f slot ≡ 0 → NotedBy f memory.old → NotedBy (now_in f slot bytes) memory.new) × (base memory.new ≡ base memory.old) }
 {
-    if bytes == 0 {
-        return;
+    if bytes != 0 {
+        note(memory, slot, bytes);
     }
-    note(memory, slot, bytes);
 }
 
 // The notes of a memory in which they say that no byte waits become those of its base: slot by slot, as if its bytes came all at once.
-pub fn note_all(memory: &mut [u8])
+pub fn note_all(memory: &mut Memory)
     requires { NotedBy no_bytes memory.old }
     ensures { (s : State) → Sound s → base memory.old ≡ bytes_of s → memory.new ≡ memory_of s }
 {
-    let end = BASE;
     let mut place = 0;
-    let mut slot = 0;
-    while slot < SLOTS {
-        let count = waiting_of(&memory[..end], slot);
-        let bytes = bytes_from(&memory[..end], place, count);
+    for slot in 0..SLOTS {
+        let base: &Base = memory.first_chunk().unwrap();
+        let count = waiting_of(base, slot);
+        let bytes = bytes_from(base, place, count);
         note_any(memory, slot, bytes);
         place += count;
-        slot += 1;
     }
 }

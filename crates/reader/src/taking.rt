@@ -1,96 +1,59 @@
-// Numbers read from a place of any bytes: past the last one 0 is read, so that no reading fails.
-ghost use Rattle.std.specs.Prelude.{◌≡◌, ℕ, ◌+◌, ◌<◌, ◌≤◌, length, drop, slice_index};
+// Numbers and bytes taken from the front of any bytes: past the last one 0 is read, so that no reading fails. Each function answers what it took, and the
+// bytes behind it.
+ghost use Rattle.std.specs.Prelude.{◌≡◌, ◌≤◌, length, take, drop, slice_index};
+ghost use Rattle.std.specs.List.{All};
 ghost use Rattle.image.specs.Parts.{as_number, span, numbers_in};
-ghost use Rattle.reader.specs.Decoding.{farthest};
 
 // The byte at a place.
 pub fn byte_at(image: &[u8], i: usize) -> u8
     ensures { result ≡ slice_index image.now i }
 {
-    if i < image.len() {
-        return image[i];
-    }
-    0
+    image.get(i).copied().unwrap_or(0)
 }
 
-// The number that so many bytes from a place on are, the highest first: of bytes that are there, of any, and so that those that are there are not asked for one by one.
-fn number_within(image: &[u8], at: usize, width: usize) -> u64
-    requires { (at + width ≤ length image.now) × (width ≤ 8) }
-    ensures { result ≡ as_number width (drop at image.now) }
+// So many bytes, or those that are there.
+pub fn take_bytes(image: &[u8], n: usize) -> (&[u8], &[u8])
+    ensures { (result.0.now ≡ take n image.now) × (result.1.now ≡ drop n image.now) }
 {
-    let mut number: u64 = 0;
-    let mut i = 0;
-    while i < width {
-        number = 256 * number + image[at + i] as u64;
-        i += 1;
+    image.split_at(n.min(image.len()))
+}
+
+// The number that some bytes are, the highest first.
+fn number_of(bytes: &[u8]) -> u64
+    requires { length bytes.now ≤ 8 }
+    ensures { result ≡ as_number (length bytes.now) bytes.now }
+{
+    let mut number = 0;
+    for byte in bytes {
+        number = 256 * number + u64::from(*byte);
     }
     number
 }
 
-fn number_beyond(image: &[u8], at: usize, width: usize) -> u64
-    requires { (at ≤ farthest) × (width ≤ 8) }
-    ensures { result ≡ as_number width (drop at image.now) }
+// The number that so many bytes are. (Bytes that are there are read where they stand, which an unpark is faster by.)
+pub fn take_number(image: &[u8], width: usize) -> (u64, &[u8])
+    requires { width ≤ 8 }
+    ensures { (result.0 ≡ as_number width image.now) × (result.1.now ≡ drop width image.now) }
 {
-    let mut number: u64 = 0;
-    let mut i = 0;
-    while i < width {
-        number = 256 * number + byte_at(image, at + i) as u64;
-        i += 1;
+    if let Some((here, behind)) = image.split_at_checked(width) {
+        return (number_of(here), behind);
     }
-    number
+    let mut padded = [0; 8];
+    padded[..image.len()].copy_from_slice(image);
+    (number_of(&padded[..width]), &image[image.len()..])
 }
 
-pub fn take_number(image: &[u8], at: usize, width: usize) -> u64
-    requires { (at ≤ farthest) × (width ≤ 8) }
-    ensures { result ≡ as_number width (drop at image.now) }
+// The numbers of parts of these widths.
+pub fn take_parts<const N: usize>(image: &[u8], widths: [usize; N]) -> ([u64; N], &[u8])
+    requires { All (λ w. w ≤ 8) widths }
+    ensures { (result.0 ≡ numbers_in widths.entry image.now) × (result.1.now ≡ drop (span widths.entry) image.now) }
 {
-    if at + width <= image.len() {
-        return number_within(image, at, width);
+    let mut numbers = [0; N];
+    let mut left = image;
+    for i in 0..N {
+        let (number, behind) = take_number(left, widths[i]);
+        numbers[i] = number;
+        left = behind;
     }
-    number_beyond(image, at, width)
-}
-
-// The numbers of parts of these widths. Answers the place behind them.
-pub fn take_parts(image: &[u8], at: usize, widths: &[usize], numbers: &mut [u64]) -> usize
-    requires { (length widths.now ≡ length numbers.old) × ((i : ℕ) → slice_index widths.now i ≤ 8) × (at + span widths.now ≤ farthest) }
-    ensures value { result ≡ at + span widths.now }
-    ensures numbers_after { numbers.new ≡ numbers_in widths.now (drop at image.now) }
-{
-    let mut next = at;
-    let mut i = 0;
-    while i < widths.len() {
-        let width = widths[i];
-        numbers[i] = take_number(image, next, width);
-        next += width;
-        i += 1;
-    }
-    next
-}
-
-// A number where it has room, and 0 elsewhere.
-pub fn low_u8(number: u64) -> u8
-    ensures { number < 256 → result ≡ number }
-{
-    if number < 256 {
-        return number as u8;
-    }
-    0
-}
-
-pub fn low_u16(number: u64) -> u16
-    ensures { number < 65536 → result ≡ number }
-{
-    if number < 65536 {
-        return number as u16;
-    }
-    0
-}
-
-pub fn low_u32(number: u64) -> u32
-    ensures { number < 4294967296 → result ≡ number }
-{
-    if number < 4294967296 {
-        return number as u32;
-    }
-    0
+    (numbers, left)
 }

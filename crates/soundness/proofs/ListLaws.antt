@@ -1,8 +1,9 @@
 -- What a turn of each loop over the list and its keys adds.
-use Rattle.std.proofs.Common.{◌≡◌, ℕ, suc, ◌+◌, ◌-◌, ◌*◌, ◌<◌, ◌≤◌, Bool, true, false, not, ◌&&◌, eqb, ltb, leb, List, length, sym, refl, ap, ◌∙◌, add-one, arith, le-ltb, lt-ltb, ne_eqb, eqb-true, le-leb}
+use Rattle.std.proofs.Common.{◌≡◌, ℕ, suc, ◌+◌, ◌-◌, ◌<◌, ◌≤◌, Bool, true, false, not, ◌&&◌, eqb, ltb, leb, List, length, sym, refl, ap, ◌∙◌, add-one, arith, le-ltb, lt-ltb, ne_eqb, eqb-true, le-leb}
 use mathlib.Core.Bool.{and-true, and-false, and_assoc}
 use borrow.Author.Tests.{eqb-false, lt-leb}
 use Rattle.octets.specs.Number.{Bytes}
+use Rattle.std.specs.Int.{from_bool}
 use Rattle.lists.specs.Slots.{one_if}
 use Rattle.rules.specs.Numbers.{slots, listed}
 use Rattle.memory.specs.Names as the
@@ -12,36 +13,35 @@ use Rattle.fullest.specs.Listing.{slot_at, slots_from}
 use Rattle.soundness.specs.Check.{clear}
 use Rattle.fullest.specs.Keys.{key, top, falling, above, limit_of, list_rule}
 use Rattle.soundness.specs.Notes.{fullest_rule}
-use Rattle.fullest.proofs.BytesRead.{low_at, high_at, bytes_read, bytes_fit}
+use Rattle.fullest.proofs.BytesRead.{bytes_fit}
 use Rattle.fullest.proofs.Falls.{occurs-place}
 use Rattle.fullest.proofs.FullestLaws.{falling-falls, list_law}
 use Rattle.fullest.proofs.MovingLaws.{slots_length}
-use Rattle.soundness.proofs.NotesRead.{bytes-none}
 
 -- ---- slots at or above a limit
 
-pub above-turn : (b : List ℕ) (t s n x r : ℕ) → n ≡ above (bytes_at b) t s → x ≡ slots * (low_at b s + 256 * high_at b s) + (slots - 1 - s)
-    → r ≡ one_if (leb t x) → n + r ≡ above (bytes_at b) t (s + 1)
+pub one_most : (test : Bool) → from_bool test ≤ 1
+one_most true = omega arith
+one_most false = omega arith
+
+pub above-turn : (f : ℕ → ℕ) (limit s n : ℕ) (test : Bool) → n ≡ above f limit s → test ≡ leb limit (key f s) → n + from_bool test ≡ above f limit (s + 1)
 unfolding above
-above-turn b t s n x r e g h =
-    let k : x ≡ key (bytes_at b) s = omega (arith, bytes_read b s) in
-    rw (add-one s, e, h, k) refl
+above-turn f limit s n test e h = rw (add-one s, e, h, from-one (leb limit (key f s))) refl
+  where
+    from-one : (t : Bool) → from_bool t ≡ one_if t
+    from-one true = refl
+    from-one false = refl
 
 -- a slot in which some byte waits is one whose key is at least that of the last slot with one byte
-filled-turn : (f : ℕ → ℕ) (s : ℕ) → s < 64 → leb 64 (key f s) ≡ not (eqb (f s) 0)
-filled-turn f s l = go (eqb (f s) 0) refl
+pub filled-key : (f : ℕ → ℕ) (s : ℕ) → s < 64 → not (eqb (f s) 0) ≡ leb 64 (key f s)
+filled-key f s l = go (eqb (f s) 0) refl
   where
-    go : (c : Bool) → eqb (f s) 0 ≡ c → leb 64 (key f s) ≡ not c
-    go true e = let z : f s ≡ 0 = eqb-true (f s) 0 e in lt-leb 64 (key f s) (omega arith)
-    go false e = le-leb 64 (key f s) (some (eqb-false (f s) 0 e))
+    go : (c : Bool) → eqb (f s) 0 ≡ c → not c ≡ leb 64 (key f s)
+    go true e = let z : f s ≡ 0 = eqb-true (f s) 0 e in sym (lt-leb 64 (key f s) (omega arith))
+    go false e = sym (le-leb 64 (key f s) (some (eqb-false (f s) 0 e)))
       where
         some : (f s ≡ 0 → ⊥) → 64 ≤ key f s
         some d = omega arith
-
-pub filled-one : (b : List ℕ) (s n r : ℕ) → s < 64 → n ≡ above (bytes_at b) slots s → r ≡ one_if (not (eqb (low_at b s) 0 && eqb (high_at b s) 0))
-    → n + r ≡ above (bytes_at b) slots (s + 1)
-unfolding above
-filled-one b s n r l e h = rw (add-one s, e, h, bytes-none b s, filled-turn (bytes_at b) s l) refl
 
 -- ---- the list in order
 

@@ -1,6 +1,6 @@
 -- The check of the whole is soundness: what the base's rules and the notes' rules say together is that the bytes are those of the state read, notes included.
 use Rattle.std.proofs.Common.{◌≡◌, ℕ, zero, suc, ◌+◌, ◌-◌, ◌<◌, ◌≤◌, Bool, true, false, ◌&&◌, ltb, leb, List, ◌++◌, length, get_or, sym, refl, ap, ◌∙◌, subst, arith, take-append-drop, ltb-false, ltb-true, eq-eqb, eqb-true, le-leb, leb-false, leb-true}
-use mathlib.Core.Bool.{false≢true}
+use mathlib.Core.Bool.{false≢true, and_assoc}
 use lib.ListN.{get_or-eq_default}
 use Rattle.lists.specs.Tabs.{tab}
 use Rattle.lists.proofs.TabLaws.{get_d_tab, tab-last, length-tab}
@@ -156,7 +156,7 @@ module _ (b : List ℕ) (fits : Bytes b) (size : length b ≡ memory_length) whe
       ∙ ap (λ (t : Bool). t && (sums_rule b && fullest_rule b)) (sym (check_is-sound (base b) fits-base))
       ∙ rw (eq-eqb (length (base b)) base_length (length-base b (omega arith))) refl
 
-  pub slots-wrong : (heads_rule (base b) && pool_rule (base b)) ≡ false → false ≡ sound_bytes b
+  slots-wrong : (heads_rule (base b) && pool_rule (base b)) ≡ false → false ≡ sound_bytes b
   slots-wrong e = sym (asked ∙ go (heads_rule (base b)) (pool_rule (base b)) _ _ e)
     where
       go : (h p x y : Bool) → (h && p) ≡ false → ((h && (p && x)) && y) ≡ false
@@ -169,13 +169,12 @@ module _ (b : List ℕ) (fits : Bytes b) (size : length b ≡ memory_length) whe
   counted e =
       let (heads, pool) = and-true (heads_rule (base b)) (pool_rule (base b)) e in
       record {
-        size = size;
         all = refl;
         few = rw (← first-same) (pool-total (base b) pool);
         room = λ i l. rw (← waiting-base b (omega arith) i l) (heads-at (base b) heads i l).few;
       }
 
-  pub slots-right : (heads_rule (base b) && pool_rule (base b)) ≡ true
+  slots-right : (heads_rule (base b) && pool_rule (base b)) ≡ true
       → ((lengths_rule b (first_at b slots) && sums_rule b) && (rest_rule (base b) && fullest_rule b)) ≡ sound_bytes b
   unfolding cells_rule rest_rule
   slots-right e =
@@ -195,3 +194,12 @@ module _ (b : List ℕ) (fits : Bytes b) (size : length b ≡ memory_length) whe
       go true true false s true f = refl
       go true true true false true f = refl
       go true true true true true f = refl
+
+  -- the parts in the order in which the code asks for them
+  pub parts : ((((heads_rule (base b) && pool_rule (base b)) && (lengths_rule b (first_at b slots) && sums_rule b)) && rest_rule (base b)) && fullest_rule b) ≡ sound_bytes b
+  parts = go (heads_rule (base b) && pool_rule (base b)) refl
+    where
+      go : (t : Bool) → (heads_rule (base b) && pool_rule (base b)) ≡ t
+          → ((((heads_rule (base b) && pool_rule (base b)) && (lengths_rule b (first_at b slots) && sums_rule b)) && rest_rule (base b)) && fullest_rule b) ≡ sound_bytes b
+      go true e = rw e (and_assoc (lengths_rule b (first_at b slots) && sums_rule b) (rest_rule (base b)) (fullest_rule b) ∙ slots-right e)
+      go false e = rw e (slots-wrong e)

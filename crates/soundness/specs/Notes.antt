@@ -4,7 +4,7 @@ use Rattle.std.specs.Prelude.{◌≡◌, ℕ, zero, suc, ◌+◌, ◌-◌, ◌%�
 use Rattle.rules.specs.Numbers.{slots, room, cells, listed}
 use Rattle.rules.specs.Fullest.{fullest_by}
 use Rattle.memory.specs.Names as the
-use Rattle.memory.specs.Layout.{note_place, memory_length}
+use Rattle.memory.specs.Layout.{note_place}
 use Rattle.memory.specs.Reading.{number_in, waiting_at, first_at, bytes_at, listed_at}
 use Rattle.memory.specs.Memory.{same}
 use Rattle.fullest.specs.Listing.{slots_from}
@@ -47,7 +47,6 @@ between_rule b ends i = (slice_index ends (i + 1) + (65536 - slice_index ends i)
 
 -- what the check of the sums may take for granted: the rules of heads and of the pool, which are tested before
 pub record Counted (b : List ℕ) (total : ℕ) : Type 0 where
-  pub size : length b ≡ memory_length
   pub all : total ≡ first_at b slots
   pub few : total ≤ cells
   pub room : (i : ℕ) → i < slots → waiting_at b i ≤ room

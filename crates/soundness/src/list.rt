@@ -2,119 +2,84 @@
 //
 // Nothing is sorted. The listed slots' keys must fall, and as many slots as are listed must be at or above the last of five, or have bytes waiting at all where fewer
 // are listed.
-ghost use Rattle.std.specs.Prelude.{◌≡◌, ◌≤◌, true, not, ◌&&◌, length, ◌==◌, nat_le};
-ghost use Rattle.lists.specs.Slots.{one_if};
+ghost use Rattle.std.specs.Prelude.{◌≡◌, ℕ, ◌<◌, ◌≤◌, Bool, true, nat_le};
 ghost use Rattle.rules.specs.Numbers.{slots, listed};
-ghost use Rattle.memory.specs.Layout.{memory_length};
 ghost use Rattle.memory.specs.Reading.{bytes_at};
 ghost use Rattle.fullest.specs.Listing.{slots_from};
-ghost use Rattle.fullest.specs.Keys.{top, falling, above, limit_of};
+ghost use Rattle.fullest.specs.Keys.{key, top, falling, above, limit_of};
 ghost use Rattle.soundness.specs.Notes.{fullest_rule};
 
-use super::lines::is_clear;
-use fullest::keys::{LEAST, TOP, key_at, key_of, wide};
-use memory::layout::{BYTES, FULLEST, LISTED_COUNT};
+use super::lines::at_most;
+use super::sums::no_bytes;
+use fullest::keys::{LEAST, TOP, key_at};
+use memory::layout::{FULLEST, LISTED_COUNT, Memory};
 use rules::{LISTED, SLOTS};
 
 // Where the last of five stands.
 const FIFTH: usize = FULLEST + LISTED - 1;
 
 // Whether the n listed are slots with bytes waiting, the fullest first.
-fn in_order(state: &[u8], n: usize) -> bool
-    requires { (length state.now ≡ memory_length) × (n ≤ listed) }
+fn in_order(state: &Memory, n: usize) -> bool
+    requires { n ≤ listed }
     ensures { result ≡ falling (bytes_at state.now) top (slots_from state.now 0 n) }
 {
     let mut ok = true;
     let mut last: u32 = TOP;
-    let mut k = 0;
-    while k < n {
-        let slot = wide(state[FULLEST + k]);
+    for k in 0..n {
+        let slot = usize::from(state[FULLEST + k]);
         if SLOTS <= slot {
             return false;
         }
         let x = key_at(state, slot);
         ok = ok & ((LEAST <= x) & (x < last));
         last = x;
-        k += 1;
     }
     ok
 }
 
-// 1 for a key at or above a limit, and 0 for any other.
-fn one_above(limit: u32, x: u32) -> u32
-    ensures { (result ≡ one_if (nat_le limit x)) × (result ≤ 1) }
+// How many slots pass a test, which is whether a key is at or above a limit.
+fn count<F: Fn(usize) -> bool>(test: F) -> u8
+    requires { (s : ℕ) → s < slots → F.pre test s }
+    ensures { (f : ℕ → ℕ) (limit : ℕ) → ((s : ℕ) → s < slots → (r : Bool) → F.post test s r → r ≡ nat_le limit (key f s)) → result ≡ above f limit slots }
 {
-    if limit <= x {
-        return 1;
+    let mut n = 0;
+    for s in 0..SLOTS {
+        n += u8::from(test(s));
     }
-    0
+    n
 }
 
 // How many slots are at or above a limit.
-fn count_above(state: &[u8], limit: u32) -> u32
-    requires { length state.now ≡ memory_length }
+fn count_above(state: &Memory, limit: u32) -> u8
     ensures { result ≡ above (bytes_at state.now) limit slots }
 {
-    let mut n: u32 = 0;
-    let mut s = 0;
-    while s < SLOTS {
-        n += one_above(limit, key_of(state[BYTES + s], state[BYTES + SLOTS + s], s));
-        s += 1;
-    }
-    n
+    count(|s| limit <= key_at(state, s))
 }
 
-// 1 for a slot in which some byte waits, and 0 for any other.
-fn one_filled(low: u8, high: u8) -> u8
-    ensures { (result ≡ one_if (not (low == 0 && high == 0))) × (result ≤ 1) }
-{
-    if (low == 0) & (high == 0) {
-        return 0;
-    }
-    1
-}
-
-// How many slots have bytes waiting: those at or above the least key of such a slot. Bytes are counted sixteen at a time, which keys are not.
-fn count_filled(state: &[u8]) -> u8
-    requires { length state.now ≡ memory_length }
+// How many slots have bytes waiting: those at or above the least key of such a slot. Bytes are compared sixteen at a time, which keys are not.
+fn count_filled(state: &Memory) -> u8
     ensures { result ≡ above (bytes_at state.now) slots slots }
 {
-    let mut n: u8 = 0;
-    let mut s = 0;
-    while s < SLOTS {
-        n += one_filled(state[BYTES + s], state[BYTES + SLOTS + s]);
-        s += 1;
-    }
-    n
+    count(|s| !no_bytes(state, s))
 }
 
 // How many slots are at or above the limit of a list of n that is in order.
-fn count_for(state: &[u8], n: usize) -> u32
-    requires { (length state.now ≡ memory_length) × (n ≤ listed) × (falling (bytes_at state.now) top (slots_from state.now 0 n) ≡ true) }
+fn count_for(state: &Memory, n: usize) -> u8
+    requires { (n ≤ listed) × (falling (bytes_at state.now) top (slots_from state.now 0 n) ≡ true) }
     ensures { result ≡ above (bytes_at state.now) (limit_of (bytes_at state.now) (slots_from state.now 0 n)) slots }
 {
     if n < LISTED {
-        return count_filled(state) as u32;
+        return count_filled(state);
     }
-    let slot = wide(state[FIFTH]);
-    let limit = key_at(state, slot);
-    count_above(state, limit)
+    count_above(state, key_at(state, usize::from(state[FIFTH])))
 }
 
 // Whether the list is the one worked out afresh, and 0 stands behind it.
-pub fn fullest_ok(state: &[u8]) -> bool
-    requires { length state.now ≡ memory_length }
+pub fn fullest_ok(state: &Memory) -> bool
     ensures { result ≡ fullest_rule state.now }
 {
-    let n = wide(state[LISTED_COUNT]);
-    if LISTED < n {
-        return false;
-    }
-    if !is_clear(state, FULLEST + n, LISTED - n) {
-        return false;
-    }
-    if !in_order(state, n) {
-        return false;
-    }
-    count_for(state, n) == n as u32
+    let n = usize::from(state[LISTED_COUNT]);
+    n <= LISTED
+        && (at_most(&state[FULLEST + n..FULLEST + LISTED], 0)
+            && (in_order(state, n) && usize::from(count_for(state, n)) == n))
 }

@@ -1,16 +1,8 @@
--- Each turn adds the test of one row to those of the rows before it.
-use Rattle.std.proofs.Common.{◌≡◌, refl, arith, rules}
-use Rattle.soundness.specs.Check.{all_below, below_rule}
-use Rattle.soundness.proofs.CheckTurns.{all-turn, all_end}
+-- The test of each row is the rule's.
+use Rattle.std.proofs.Common.{rules}
+use Rattle.soundness.specs.Check.{below_rule}
 use Rattle.soundness.proofs.below.Goals as goal
-
-pub loop-k-init : goal.loop-k-init
-unfolding all_below
-loop-k-init c = (search rules, refl)
-
-pub loop-k-preserved : goal.loop-k-preserved
-loop-k-preserved c = (search rules, all-turn _ _ _ _ c.loop-k.invariant.1 refl)
 
 pub returns : goal.returns
 unfolding below_rule
-returns c = let e : c.loop-k.k ≡ c.args.n = omega arith in all_end _ _ _ _ c.loop-k.invariant.1 e
+returns c = search rules

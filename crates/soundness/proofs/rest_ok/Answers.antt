@@ -1,10 +1,17 @@
--- It is of the base alone.
+-- Each way out is what the rules looked at so far give.
 use Rattle.std.proofs.Common.{sym}
-use Rattle.soundness.proofs.NotesRead.{base-size}
+use Rattle.soundness.specs.Check.{rest_rule}
 use Rattle.soundness.proofs.rest_ok.Goals as goal
 
-pub slice_bounds-rest_of-end : goal.slice_bounds-rest_of-end
-slice_bounds-rest_of-end c = sym (base-size c.args.state.now c.requires.0)
+pub returns-else-behind : goal.returns-else-behind
+unfolding rest_rule
+returns-else-behind c = rw (sym c.first_of.ensures, sym c.behind.ensures, c.if-behind.false)
 
-pub rest_of-requires : goal.rest_of-requires
-rest_of-requires c = (base-size c.args.state.now c.requires.0, c.requires.1)
+pub returns-else-rows : goal.returns-else-rows
+unfolding rest_rule
+returns-else-rows c = rw (sym c.first_of.ensures, sym c.behind.ensures, c.if-behind.true, sym c.row_count.ensures.0, sym c.rows.ensures, c.if-rows.false)
+
+pub returns-then-rows : goal.returns-then-rows
+unfolding rest_rule
+returns-then-rows c =
+    rw (sym c.first_of.ensures, sym c.behind.ensures, c.if-behind.true, sym c.row_count.ensures.0, sym c.rows.ensures, c.if-rows.true, c.scan.ensures)

@@ -14,7 +14,7 @@ pub returns-then-slots_in-eq0 : goal.returns-then-slots_in-eq0
 unfolding to_visit_rule
 returns-then-slots_in-eq0 c = rw (
   sym c.load_mask-mask.ensures,
-  sym c.wide-column.ensures.0,
+  sym c.from-column.ensures,
   eq-eqb _ 0 (ones_none _ (sym c.slots_in.ensures ∙ c.if-slots_in-eq0.true)),
 )
 
@@ -22,7 +22,7 @@ pub returns-then-column-ge-COLUMNS : goal.returns-then-column-ge-COLUMNS
 unfolding to_visit_rule
 returns-then-column-ge-COLUMNS c = rw (
   sym c.load_mask-mask.ensures,
-  sym c.wide-column.ensures.0,
+  sym c.from-column.ensures,
   ne_eqb _ 0 (some _ _ c.slots_in.ensures c.if-slots_in-eq0.false),
   le-ltb _ columns c.if-column-ge-COLUMNS.true,
 )
@@ -31,7 +31,7 @@ pub returns : goal.returns
 unfolding to_visit_rule
 returns c = rw (
   sym c.load_mask-mask.ensures,
-  sym c.wide-column.ensures.0,
+  sym c.from-column.ensures,
   ne_eqb _ 0 (some _ _ c.slots_in.ensures c.if-slots_in-eq0.false),
   lt-ltb _ columns c.if-column-ge-COLUMNS.false,
   c.in_column.ensures,

@@ -3,7 +3,6 @@ use mathlib.Core.Path.{sym, ◌∙◌}
 use native.Mathlib.Omega.{arith}
 use borrow.Author.Rules.{rules}
 use Rattle.bits.proofs.TrailingLaws.{trailing_lt}
-use Rattle.spread.specs.Limits.{outside}
 use Rattle.spread.proofs.Limits.{between}
 use Rattle.spread.proofs.Calls.{term-given}
 use Rattle.spread.proofs.term.Goals as goal

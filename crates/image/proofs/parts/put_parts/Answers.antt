@@ -1,31 +1,36 @@
 -- At each turn the parts passed are laid.
-use mathlib.Core.Path.{refl, ◌∙◌}
-use native.Mathlib.Omega.{arith}
-use Rattle.image.proofs.LaidLaws.{laid-room, parts_none, parts-turn, parts_all}
+use Rattle.std.proofs.Common.{get_or, ap, arith, take_all}
+use Rattle.image.specs.Parts.{laid}
+use Rattle.octets.proofs.WroteLaws.{nothing_wrote, then_wrote, wrote_as}
+use Rattle.image.proofs.PartLaws.{length-high_first, no_part}
+use Rattle.image.proofs.LaidLaws.{last-bytes, laid-turn, laid-room}
 use Rattle.image.proofs.parts.put_parts.Goals as goal
 
-pub loop-i-init : goal.loop-i-init
-loop-i-init c = let a = c.args in (omega arith, refl, parts_none a.buffer.now a.at a.widths.now a.numbers.now)
+pub loop-part-init : goal.loop-part-init
+unfolding laid
+loop-part-init c = nothing_wrote c.args.w.now (omega arith)
 
-pub put_number-next-requires : goal.put_number-next-requires
-put_number-next-requires c =
-    let a = c.args in
-    let l = c.loop-i in
-    omega (arith, laid-room l.i a.widths.now a.numbers.now c.requires.0 (omega arith), l.invariant.2.place, c.requires.1)
+pub overflow_sub-part : goal.overflow_sub-part
+overflow_sub-part c = c.requires.0 c.loop-part.part-index no_part c.loop-part-test.true
 
-pub loop-i-preserved : goal.loop-i-preserved
-loop-i-preserved c =
-    let a = c.args in
-    let l = c.loop-i in
-    let put = c.put_number-next in
-    let more = c.loop-i-test.true in (
-      omega arith,
-      put.auto.buffer ∙ l.invariant.1,
-      parts-turn a.at l.i a.widths.now a.numbers.now c.requires.0 more c.requires.1 l.invariant.2 put.ensures,
-    )
+pub bytes-requires : goal.bytes-requires
+bytes-requires c =
+    let ps = c.args.parts.now in
+    let l = c.loop-part in
+    let p = get_or ps l.part-index no_part in
+    let bytes = last-bytes p.width p.number (c.requires.0 l.part-index no_part c.loop-part-test.true) in
+    rw (c.to_be_bytes-bytes.ensures, bytes)
+    (omega (arith, length-high_first p.width p.number, laid-room l.part-index ps c.loop-part-test.true, l.invariant.written.place, l.invariant.same_length, c.requires.1))
+
+pub loop-part-preserved : goal.loop-part-preserved
+loop-part-preserved c =
+    let ps = c.args.parts.now in
+    let l = c.loop-part in
+    let p = get_or ps l.part-index no_part in
+    let bytes = last-bytes p.width p.number (c.requires.0 l.part-index no_part c.loop-part-test.true) in
+    wrote_as (laid-turn l.part-index ps c.loop-part-test.true) (then_wrote l.invariant (rw (c.to_be_bytes-bytes.ensures, bytes) at c.bytes.ensures))
 
 pub returns : goal.returns
 returns c =
-    let a = c.args in
-    let l = c.loop-i in
-    parts_all a.at l.i a.widths.now a.numbers.now c.requires.0 c.loop-i-test.false l.invariant.2
+    let l = c.loop-part in
+    wrote_as (ap laid (take_all l.part-index c.args.parts.now c.loop-part-test.false)) l.invariant

@@ -2,9 +2,9 @@
 use mathlib.Core.Path.{◌≡◌, sym, ◌∙◌}
 use mathlib.Core.Bool.{true, false}
 use native.Mathlib.Omega.{arith}
+use Rattle.std.proofs.Common.{rules}
 use Rattle.memory.specs.Memory.{sound_bytes}
 use Rattle.memory.specs.Reading.{state_of}
-use Rattle.memory.proofs.Base.{length-base}
 use Rattle.memory.proofs.OneMemory.{memory-sound, base_of_sound}
 use Rattle.image.proofs.HeadLaws.{park_unsound, park_twice, park_left}
 use Rattle.image.proofs.writer.park_version.Goals as goal
@@ -12,7 +12,7 @@ use Rattle.image.proofs.writer.park_version.Goals as goal
 pub returns-then-not-check : goal.returns-then-not-check
 returns-then-not-check c =
     let a = c.args in
-    park_unsound a.version a.state.now a.image.now (sym c.check.ensures ∙ c.if-not-check.true)
+    park_unsound a.version.number a.state.now a.image.now (sym c.check.ensures ∙ c.if-not-check.true)
 
 pub is_parked-requires : goal.is_parked-requires
 is_parked-requires c =
@@ -23,25 +23,20 @@ is_parked-requires c =
 pub returns-then-is_parked : goal.returns-then-is_parked
 returns-then-is_parked c =
     let a = c.args in
-    park_twice a.version a.state.now a.image.now (sym c.check.ensures ∙ c.if-not-check.false) (sym c.is_parked.ensures ∙ c.if-is_parked.true)
+    park_twice a.version.number a.state.now a.image.now (sym c.check.ensures ∙ c.if-not-check.false) (sym c.is_parked.ensures ∙ c.if-is_parked.true)
 
-pub slice_bounds-park_on-end : goal.slice_bounds-park_on-end
-slice_bounds-park_on-end c =
+pub unwrap-requires : goal.unwrap-requires
+unwrap-requires c =
     let m = c.args.state.now in
     let sound : sound_bytes m ≡ true = sym c.check.ensures ∙ c.if-not-check.false in
-    omega (arith, (memory-sound m sound).size)
-
-pub slice_bounds-park_on-end-2 : goal.slice_bounds-park_on-end-2
-slice_bounds-park_on-end-2 c =
-    let m = c.args.state.now in
-    let sound : sound_bytes m ≡ true = sym c.check.ensures ∙ c.if-not-check.false in
-    sym (length-base m (omega (arith, (memory-sound m sound).size)))
+    search (rules, (memory-sound m sound).size)
 
 pub park_on-requires : goal.park_on-requires
 park_on-requires c =
     let m = c.args.state.now in
     let sound : sound_bytes m ≡ true = sym c.check.ensures ∙ c.if-not-check.false in
-    (base_of_sound m sound, c.requires.0, c.requires.1)
+    let front = rw c.unwrap.ensures at c.first_chunk_mut.ensures.cases in
+    rw (sym front.same) at (base_of_sound m sound)
 
 pub returns : goal.returns
 returns c =
@@ -49,4 +44,5 @@ returns c =
     let m = a.state.now in
     let sound : sound_bytes m ≡ true = sym c.check.ensures ∙ c.if-not-check.false in
     let open_yet : (state_of m).parked ≡ false = sym c.is_parked.ensures ∙ c.if-is_parked.false in
-    park_left a.version m a.image.now sound open_yet c.park_on.ensures
+    let front = rw c.unwrap.ensures at c.first_chunk_mut.ensures.cases in
+    park_left a.version.number m a.image.now sound open_yet (rw front.same at c.park_on.ensures)

@@ -1,45 +1,32 @@
 -- The edition, slots, rows, and then the order and the scan point: after the last the memory is the state's.
-use Rattle.std.proofs.Common.{length, refl, ap, ◌∙◌, arith}
-use Rattle.reader.proofs.StateDecode.{head-narrow, image_decoded}
+use Rattle.std.proofs.Common.{◌≡◌, ℕ, ◌∷◌, List, length, get_or, ap, ◌∙◌, arith}
+use Rattle.image.specs.Parts.{numbers_of}
+use Rattle.image.specs.Image.{scan_parts}
+use Rattle.memory.proofs.Fitting.{rows_few}
+use Rattle.memory.proofs.SoundFits.{sound-fits}
+use Rattle.reader.proofs.TakingLaws.{low}
+use Rattle.reader.proofs.StateDecode.{head-taken, edition-stored, image_decoded}
 use Rattle.reader.proofs.decode.decode.Goals as goal
-
-pub take_parts-next-requires : goal.take_parts-next-requires
-take_parts-next-requires c =
-    (refl, head-narrow c.args.version c.requires.2, omega (arith, c.requires.2))
-
-pub store_edition-requires : goal.store_edition-requires
-store_edition-requires c = c.requires.0
-
-pub read_slots-requires : goal.read_slots-requires
-read_slots-requires c =
-    let start = c in (
-      c.store_edition.auto.memory ∙ ap length start.requires.0,
-      omega (arith, c.take_parts-next.ensures.value, start.requires.2),
-      start.requires.1,
-      start.requires.2,
-    )
-
-pub read_rows-requires : goal.read_rows-requires
-read_rows-requires c =
-    let start = c in (
-      c.read_slots.auto.memory ∙ c.store_edition.auto.memory ∙ ap length start.requires.0,
-      omega (arith, c.take_parts-next.ensures.value, start.requires.2),
-      omega arith,
-    )
-
-pub store_point-requires : goal.store_point-requires
-store_point-requires c =
-    c.read_rows.auto.memory ∙ c.read_slots.auto.memory ∙ c.store_edition.auto.memory ∙ ap length c.requires.0
 
 pub returns : goal.returns
 returns c =
     let a = c.args in
-    let parts = c.take_parts-next in
-    let count = c.low_u8-count in
-    let edition = c.store_edition in
-    let slots = c.read_slots in
-    let rows = c.read_rows in
-    let point = c.store_point in
-    λ s S unmarked e.
-    image_decoded a.image.now a.version c.requires.1 s S unmarked e a.memory.now _ parts.result count.result slots.result edition.new.memory slots.new.memory rows.new.memory
-    point.new.memory parts.ensures.numbers_after parts.ensures.value count.ensures edition.ensures slots.ensures rows.ensures point.ensures
+    let v = a.version.number in
+    let parts = rw c.wide.ensures at c.take_parts.ensures in
+    record {
+      built = λ s S unmarked e.
+          let F = sound-fits S in
+          let (n, m, read) = head-taken a.image.now v a.version.known.0 s S unmarked e in
+          let taken = parts.0 ∙ read in
+          let number : (k : ℕ) → get_or c.take_parts.result.0 k 0 ≡ get_or (n ∷ m ∷ numbers_of (scan_parts v s)) k 0 = λ k. ap (λ (ns : List ℕ). get_or ns k 0) taken in
+          let edition : c.unwrap_or.result ≡ s.edition = low c.try_from-2.result c.try_from-2.ensures c.unwrap_or.ensures (omega (arith, number 2, F.edition-fits)) ∙ number 2 in
+          let order : c.unwrap_or-2.result ≡ s.order = low c.try_from-3.result c.try_from-3.ensures c.unwrap_or-2.ensures (omega (arith, number 3, F.order-fits)) ∙ number 3 in
+          let count : c.unwrap_or-count.result ≡ length s.rows = low c.try_from.result c.try_from.ensures c.unwrap_or-count.ensures (omega (arith, number 8, rows_few F)) ∙ number 8 in
+          let rows = c.from.ensures ∙ count in
+          let point = c.scan_in.ensures n m v s F taken in
+          image_decoded a.image.now v a.version.known.0 s S unmarked e c.from.result c.take_parts.result.1.now c.take_bytes.result.0.now c.take_bytes.result.1.now
+          _ c.read_slots.new.memory c.read_rows.new.memory c.store_order.new.state c.store_scan.new.state c.unwrap_or-2.result c.scan_in.result
+          parts.1 rows c.take_bytes.ensures.0 c.take_bytes.ensures.1 order point (edition-stored s.edition c.unwrap_or.result c.requires (λ l. edition) S.edition-is)
+          c.read_slots.ensures c.read_rows.ensures c.store_order.ensures c.store_scan.ensures;
+      same_length = omega arith;
+    }

@@ -11,16 +11,16 @@ returns-then-place-count-gt-CELLS c =
 
 pub loop-i-init : goal.loop-i-init
 unfolding sum_of
-loop-i-init c = (omega arith, refl)
+loop-i-init c = refl
 
 pub loop-i-preserved : goal.loop-i-preserved
 loop-i-preserved c =
     let a = c.args in
     let l = c.loop-i in
-    (omega (arith, c.loop-i-test.true), bytes-turn a.state.now a.place l.i l.sum c.wrapping_add_u16-sum.result l.invariant.1 c.load_record-cell.ensures c.wrapping_add_u16-sum.ensures.value)
+    bytes-turn a.state.now a.place l.i l.sum _ l.invariant c.load_record-sum.ensures refl
 
 pub returns : goal.returns
 returns c =
     let a = c.args in
     let l = c.loop-i in
-    bytes_counted a.state.now a.place a.count l.i l.sum c.if-place-count-gt-CELLS.false (omega (arith, l.invariant.0, c.loop-i-test.false)) l.invariant.1
+    bytes_counted a.state.now a.place a.count l.i l.sum c.if-place-count-gt-CELLS.false (omega arith) l.invariant

@@ -11,14 +11,11 @@ returns-then-state-ne-LENGTH c =
 pub returns-then-not-receive : goal.returns-then-not-receive
 returns-then-not-receive c =
     let a = c.args in
-    let made = c.receive in
-    let e : made.result ≡ false = c.if-not-receive.true in
-    read-bad a.image.now a.state.now c.if-state-ne-LENGTH.false (rw e at made.ensures)
+    let e : c.receive.result ≡ false = c.if-not-receive.true in
+    read-bad a.image.now a.state.now c.if-state-ne-LENGTH.false (rw e at c.receive.ensures)
 
 pub returns : goal.returns
 returns c =
     let a = c.args in
-    let made = c.receive in
-    let e : made.result ≡ true = c.if-not-receive.false in
-    read_good a.image.now a.state.now c.if-state-ne-LENGTH.false made.auto.memory (rw e at made.ensures)
-    c.put_bytes.ensures
+    let e : c.receive.result ≡ true = c.if-not-receive.false in
+    rw c.copy_from_slice.ensures.after (read_good a.image.now a.state.now c.if-state-ne-LENGTH.false (rw e at c.receive.ensures))

@@ -1,19 +1,38 @@
 -- Each way out is the answer that the tests so far give.
-use Rattle.std.proofs.Common.{sym, ◌∙◌, arith, rules}
+use Rattle.std.proofs.Common.{◌≡◌, ◌+◌, ◌-◌, sym, ◌∙◌, arith}
+use Rattle.std.proofs.lemmas.Bool.{lt-leb}
+use Rattle.rules.specs.Numbers.{listed}
+use Rattle.memory.specs.Names as the
+use Rattle.memory.specs.Layout.{note_place}
+use Rattle.soundness.specs.Check.{clear}
 use Rattle.soundness.proofs.ListLaws.{too_many, not-clear, not_in_order, counted}
+use Rattle.soundness.proofs.NotesRead.{part-clear}
 use Rattle.soundness.proofs.list.fullest_ok.Goals as goal
 
-pub returns-then-n-gt-LISTED : goal.returns-then-n-gt-LISTED
-returns-then-n-gt-LISTED c = too_many _ (λ i. (c.shared_slice_known-1.given i).fits) _ c.wide-n.ensures.0 c.if-n-gt-LISTED.true
+pub returns-else-n-le-LISTED : goal.returns-else-n-le-LISTED
+returns-else-n-le-LISTED c = lt-leb _ 5 c.if-n-le-LISTED.false ∙ too_many _ c.fits-state _ c.from-n.ensures c.if-n-le-LISTED.false
 
-pub returns-then-not-is_clear : goal.returns-then-not-is_clear
-returns-then-not-is_clear c = not-clear _ (λ i. (c.shared_slice_known-1.given i).fits) _ c.wide-n.ensures.0 (omega arith) (sym c.is_clear.ensures ∙ c.if-not-is_clear.true)
+pub returns-else-at_most : goal.returns-else-at_most
+returns-else-at_most c =
+    let b = c.args.state.now in
+    let n = c.from-n.result in
+    let rest : c.at_most.result ≡ clear b (note_place the.fullest + n) (listed - n) = part-clear b (note_place the.fullest + n) (listed - n) (omega arith) (omega arith) c.at_most.ensures in
+    c.if-at_most.false ∙ not-clear _ c.fits-state _ c.from-n.ensures c.if-n-le-LISTED.true (sym rest ∙ c.if-at_most.false)
 
-pub returns-then-not-in_order : goal.returns-then-not-in_order
-returns-then-not-in_order c = not_in_order _ (λ i. (c.shared_slice_known-1.given i).fits) _ c.wide-n.ensures.0 (omega arith) (sym c.is_clear.ensures ∙ c.if-not-is_clear.false) (sym c.in_order.ensures ∙ c.if-not-in_order.true)
+pub returns-else-in_order : goal.returns-else-in_order
+returns-else-in_order c =
+    let b = c.args.state.now in
+    let n = c.from-n.result in
+    let rest : c.at_most.result ≡ clear b (note_place the.fullest + n) (listed - n) = part-clear b (note_place the.fullest + n) (listed - n) (omega arith) (omega arith) c.at_most.ensures in
+    c.if-in_order.false
+    ∙ not_in_order _ c.fits-state _ c.from-n.ensures c.if-n-le-LISTED.true (sym rest ∙ c.if-at_most.true) (sym c.in_order.ensures ∙ c.if-in_order.false)
 
 pub count_for-requires : goal.count_for-requires
-count_for-requires c = (search rules, search rules, sym c.in_order.ensures ∙ c.if-not-in_order.false)
+count_for-requires c = (c.if-n-le-LISTED.true, sym c.in_order.ensures ∙ c.if-in_order.true)
 
-pub returns : goal.returns
-returns c = counted _ (λ i. (c.shared_slice_known-1.given i).fits) _ c.wide-n.ensures.0 _ (omega arith) (sym c.is_clear.ensures ∙ c.if-not-is_clear.false) (sym c.in_order.ensures ∙ c.if-not-in_order.false) c.count_for.ensures
+pub returns-then-in_order : goal.returns-then-in_order
+returns-then-in_order c =
+    let b = c.args.state.now in
+    let n = c.from-n.result in
+    let rest : c.at_most.result ≡ clear b (note_place the.fullest + n) (listed - n) = part-clear b (note_place the.fullest + n) (listed - n) (omega arith) (omega arith) c.at_most.ensures in
+    counted _ c.fits-state _ c.from-n.ensures _ c.if-n-le-LISTED.true (sym rest ∙ c.if-at_most.true) (sym c.in_order.ensures ∙ c.if-in_order.true) (c.from.ensures ∙ c.count_for.ensures)

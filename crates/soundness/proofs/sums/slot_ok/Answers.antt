@@ -1,7 +1,7 @@
--- The difference modulo 65,536 is the number that, added to the total before, gives the one behind.
-use Rattle.std.proofs.Common.{refl, arith}
-use Rattle.soundness.proofs.SumLaws.{wrapped_difference}
+-- The bytes waiting are the two bytes read.
+use Rattle.std.proofs.Common.{sym, ap, eqb, ◌∙◌, ◌+◌, ◌-◌, ◌%◌}
+use Rattle.fullest.proofs.BytesRead.{bytes_read}
 use Rattle.soundness.proofs.sums.slot_ok.Goals as goal
 
 pub returns : goal.returns
-returns c = rw (c.two.ensures, wrapped_difference c.wrapping_sub_u16.result _ _ (omega arith) (omega arith) (omega arith) c.wrapping_sub_u16.ensures.value) refl
+returns c = ap (eqb ((c.args.behind + (65536 - c.args.before)) % 65536)) (c.two.ensures ∙ sym (bytes_read c.args.state.now c.args.slot))

@@ -1,7 +1,7 @@
 -- Each turn tests one length and sets one place, eight on from the one that it is made of; the places before it stay.
-use Rattle.std.proofs.Common.{◌≡◌, sym, refl, ap, ◌∙◌, arith, rules}
-use Rattle.soundness.specs.Notes.{length_at}
+use Rattle.std.proofs.Common.{◌≡◌, refl, ap, sym, ◌∙◌, arith}
 use Rattle.soundness.specs.Check.{all_below, length_rule, lengths_rule}
+use Rattle.soundness.specs.Notes.{length_at}
 use Rattle.soundness.proofs.CheckTurns.{all-turn, all_end}
 use Rattle.soundness.proofs.NotesRead.{size-read}
 use Rattle.soundness.proofs.SumLaws.{strided_none, strided_turn, stride_step}
@@ -9,21 +9,19 @@ use Rattle.soundness.proofs.sums.stride.Goals as goal
 
 pub loop-p-init : goal.loop-p-init
 unfolding all_below
-loop-p-init c = (search rules, search rules, strided_none _ _ (omega arith) c.requires.3, refl)
+loop-p-init c = (strided_none _ _ (omega arith) c.requires.2, refl)
 
 pub loop-p-preserved : goal.loop-p-preserved
 loop-p-preserved c =
     let turn = c.loop-p in
     let b = c.args.state.now in
     let read : c.two-size.result ≡ length_at b turn.p = c.two-size.ensures ∙ sym (size-read b turn.p) in (
-      search rules,
-      search rules,
-      strided_turn _ _ _ _ (omega arith) (stride_step _ _ _ _ c.wrapping_add_u16.ensures.value read) turn.invariant.2,
-      all-turn _ _ _ _ turn.invariant.3 (c.length_ok-ok.ensures ∙ ap length_rule read),
+      strided_turn _ _ _ _ (omega arith) (stride_step _ _ _ _ refl read) turn.invariant.0,
+      all-turn _ _ _ _ turn.invariant.1 (c.length_ok-ok.ensures ∙ ap length_rule read),
     )
 
 pub returns : goal.returns
 unfolding lengths_rule
 returns c =
     let e : c.loop-p.p ≡ c.args.total = omega arith in
-    (all_end _ _ _ _ c.loop-p.invariant.3 e, rw e at c.loop-p.invariant.2)
+    (all_end _ _ _ _ c.loop-p.invariant.1 e, rw e at c.loop-p.invariant.0)
