@@ -1,7 +1,6 @@
 -- Each test is a check of the rules, and the head stored makes the lowest slot an open one.
-use Rattle.std.proofs.Common.{◌≡◌, ◌≤◌, false, refl, sym, ap, ◌∙◌, lt_of_le_of_lt, arith}
+use Rattle.std.proofs.Common.{◌≡◌, false, refl, sym, ap, ◌∙◌, arith}
 use Rattle.spread.specs.Limits.{heaviest, outside}
-use Rattle.spread.proofs.Limits.{between}
 use Rattle.rules.specs.State.{at}
 use Rattle.rules.specs.Calls.{opening, lowest}
 use Rattle.memory.specs.declared.heads.Head.{Head}
@@ -41,12 +40,6 @@ overflow_add-ticket c =
     record {
       fits = omega (arith, ap (λ (x : Head). x.ticket) loaded, opened-ticket (sound_of c.args.state.now c.requires.0) slot (sym found.0) found.1);
     }
-
-pub overflow_cast-weight : goal.overflow_cast-weight
-overflow_cast-weight c =
-    let weighed : outside 1 heaviest c.args.weight ≡ false = sym c.outside.ensures ∙ c.if-outside.false in
-    let low : c.args.weight ≤ heaviest = (between 1 heaviest _ weighed).1 in
-    record { fits = lt_of_le_of_lt low (omega arith) }
 
 pub store_head-requires : goal.store_head-requires
 store_head-requires c =

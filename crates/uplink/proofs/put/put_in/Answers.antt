@@ -83,13 +83,6 @@ returns-then-no_cell c =
     c.if-head-eq2.false (sound-holds _ c.requires.0) good_length c.waiting_of-waiting.result c.waiting_of-waiting.ensures.0
     c.if-waiting-ge-ROOM.false c.no_cell.result c.no_cell.ensures ∙ c.if-no_cell.true))
 
-pub overflow_cast-length : goal.overflow_cast-length
-overflow_cast-length c =
-    let good_length : outside 1 longest c.args.length ≡ false = sym c.outside.ensures ∙ c.if-outside.false in
-    let low : c.args.length ≤ longest
-    = (between 1 longest _ good_length).1 in
-    record { fits = lt_of_le_of_lt low (omega arith) }
-
 pub take-requires : goal.take-requires
 take-requires c =
     let channel = c.in_ok-head.ensures in
