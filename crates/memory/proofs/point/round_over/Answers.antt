@@ -21,14 +21,14 @@ one_less p k n e = go (eqb (suc p) (2 ^ k)) refl
 pub overflow_sub-last : goal.overflow_sub-last
 overflow_sub-last c =
     let k = byte_in the.order c.args.state.now 0 in
-    let e : c.turns-last.result ≡ 2 ^ k = c.turns-last.ensures in
+    let e : c.turns-last.result ≡ 2 ^ k = rw c.from.ensures at c.turns-last.ensures in
     omega (arith, pow_pos k)
 
 pub returns : goal.returns
 unfolding over_at
 returns c =
     let b = c.args.state.now in
-    let last = one_less (number_in the.position b 0) (byte_in the.order b 0) c.turns-last.result c.turns-last.ensures in
+    let last = one_less (number_in the.position b 0) (byte_in the.order b 0) c.turns-last.result (rw c.from.ensures at c.turns-last.ensures) in
     rw (
       c.holds-held.ensures,
       c.load_scan-scan.ensures,

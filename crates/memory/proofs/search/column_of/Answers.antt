@@ -3,7 +3,6 @@ use Prim.Native.Nat.{ℕ, suc, ◌-◌}
 use mathlib.Core.Path.{◌≡◌, sym, ap, ◌∙◌}
 use mathlib.Core.Bool.{Bool, true, false}
 use native.Mathlib.Omega.{arith}
-use borrow.Author.Rules.{rules}
 use lib.Dec.{eqb}
 use lib.ListN.{get_or}
 use Rattle.bits.specs.Bit.{bit, with_bit}
@@ -15,13 +14,7 @@ use Rattle.memory.proofs.search.column_of.Goals as goal
 pub loop-i-init : goal.loop-i-init
 loop-i-init c =
     let b = c.args.state.now in
-    (search rules, sym (column-end (weights (state_of b).channels) (state_of b).rows c.args.column c.row_count-i.result (omega (arith, rows-length b))))
-
-pub weight_of_row-weight-requires : goal.weight_of_row-weight-requires
-weight_of_row-weight-requires c = (c.requires.0, omega arith)
-
-pub row_at-requires : goal.row_at-requires
-row_at-requires c = (c.requires.0, omega arith)
+    sym (column-end (weights (state_of b).channels) (state_of b).rows c.args.column c.row_count-i.result (omega (arith, rows-length b, c.row_count-i.ensures.0)))
 
 pub loop-i-preserved-then-in_mask : goal.loop-i-preserved-then-in_mask
 loop-i-preserved-then-in_mask c =
@@ -30,18 +23,16 @@ loop-i-preserved-then-in_mask c =
     let b = a.state.now in
     let f = weights (state_of b).channels in
     let rows = (state_of b).rows in
-    let weight = c.weight_of_row-weight.ensures in
+    let weight = c.from.ensures ∙ c.weight_of_row.ensures in
     let test : ℕ → Bool = λ w. eqb (bit a.column w) 1 in
     let has : test (f (get_or rows (l.i - 1) 0)) ≡ true
     = ap test (sym weight) ∙ sym c.in_mask.ensures ∙ c.if-in_mask.true in
-    let next : suc (l.i - 1) ≡ l.i = omega arith in
-    let grown = column_in f rows a.column (l.i - 1) (omega (arith, rows-length b)) has in (
-      search rules,
-      c.with_slot-mask.ensures
-          ∙ ap (λ (r : ℕ). with_bit r l.mask) c.row_at.ensures.0
-          ∙ ap (with_bit (get_or rows (l.i - 1) 0)) l.invariant.1
-          ∙ sym (rw next at grown),
-    )
+    let next : suc (l.i - 1) ≡ l.i = omega (arith, c.loop-i-test.true) in
+    let grown = column_in f rows a.column (l.i - 1) (omega (arith, rows-length b, l.auto.i, c.loop-i-test.true, c.row_count-i.ensures.0)) has in
+    c.with_slot-mask.ensures
+    ∙ ap (λ (r : ℕ). with_bit r l.mask) c.row_at.ensures.0
+    ∙ ap (with_bit (get_or rows (l.i - 1) 0)) l.invariant
+    ∙ sym (rw next at grown)
 
 pub loop-i-preserved : goal.loop-i-preserved
 loop-i-preserved c =
@@ -50,16 +41,16 @@ loop-i-preserved c =
     let b = a.state.now in
     let f = weights (state_of b).channels in
     let rows = (state_of b).rows in
-    let weight = c.weight_of_row-weight.ensures in
+    let weight = c.from.ensures ∙ c.weight_of_row.ensures in
     let test : ℕ → Bool = λ w. eqb (bit a.column w) 1 in
     let lacks : test (f (get_or rows (l.i - 1) 0)) ≡ false
     = ap test (sym weight) ∙ sym c.in_mask.ensures ∙ c.if-in_mask.false in
-    let next : suc (l.i - 1) ≡ l.i = omega arith in
-    let same = column-out f rows a.column (l.i - 1) (omega (arith, rows-length b)) lacks in
-    (search rules, l.invariant.1 ∙ sym (rw next at same))
+    let next : suc (l.i - 1) ≡ l.i = omega (arith, c.loop-i-test.true) in
+    let same = column-out f rows a.column (l.i - 1) (omega (arith, rows-length b, l.auto.i, c.loop-i-test.true, c.row_count-i.ensures.0)) lacks in
+    l.invariant ∙ sym (rw next at same)
 
 pub returns : goal.returns
 returns c =
     let l = c.loop-i in
-    let e : l.i ≡ 0 = omega arith in
-    rw e at l.invariant.1
+    let e : l.i ≡ 0 = omega (arith, c.loop-i-test.false) in
+    rw e at l.invariant

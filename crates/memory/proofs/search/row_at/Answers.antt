@@ -1,14 +1,7 @@
 -- A row of the state is a byte of the memory, and a slot.
-use Prim.Native.Nat.{◌+◌}
-use native.Mathlib.Omega.{arith}
 use mathlib.Core.Path.{sym}
 use Rattle.memory.proofs.SearchLaws.{rows_at}
-use Rattle.memory.specs.Names as the
-use Rattle.memory.specs.Layout.{place}
 use Rattle.memory.proofs.search.row_at.Goals as goal
 
-pub overflow_cast-result : goal.overflow_cast-result
-overflow_cast-result c = omega (arith, c.shared_slice_known-1.given (place the.rows + c.args.i))
-
 pub returns : goal.returns
-returns c = (sym (rows_at _ _ c.requires.1), c.requires.0.low _ c.requires.1)
+returns c = rw c.from.ensures (sym (rows_at _ _ c.requires.1), c.requires.0.low _ c.requires.1)

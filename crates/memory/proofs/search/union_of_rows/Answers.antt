@@ -4,4 +4,4 @@ use Rattle.memory.proofs.UnionOfRows.{union-read}
 use Rattle.memory.proofs.search.union_of_rows.Goals as goal
 
 pub returns : goal.returns
-returns c = c.union_of.ensures ∙ union-read c.requires
+returns c = c.from.ensures ∙ c.union_of.ensures ∙ union-read c.requires

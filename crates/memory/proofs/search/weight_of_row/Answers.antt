@@ -9,4 +9,4 @@ pub returns : goal.returns
 returns c =
     let b = c.args.state.now in
     let row = c.row_at-row.ensures in
-    c.load_weight.ensures ∙ sym (weights-at b c.row_at-row.result row.1) ∙ ap (weights (state_of b).channels) row.0
+    c.from.ensures ∙ c.load_weight.ensures ∙ sym (weights-at b c.row_at-row.result row.1) ∙ ap (weights (state_of b).channels) row.0

@@ -1,15 +1,13 @@
 -- The last 32 bytes of the run are kept, the first ones move by whole steps, and the kept ones are written: every byte has moved by one of the two.
-use Rattle.std.proofs.Common.{◌≡◌, ◌∙◌, ◌+◌, ◌-◌, List, ℕ, length, arith}
-use Rattle.octets.proofs.SlideLaws.{put_copied, slid-up-steps}
+use mathlib.Core.Path.{◌∙◌}
+use native.Mathlib.Omega.{arith}
+use Rattle.octets.proofs.SlideLaws.{slid-up-steps}
 use Rattle.octets.proofs.slide.slide_up.Goals as goal
 
 pub returns : goal.returns
 returns c =
     let a = c.args in
-    let from : a.i + a.n - 32 + 32 - (a.i + a.n - 32) ≡ 32 = omega arith in
-    let into : a.i + a.n - 32 + 1 + 32 - (a.i + a.n - 32 + 1) ≡ 32 = omega arith in
-    let kept : List ℕ = c.copy_from_slice-2.new.self in
-    let same = rw from at (c.copy_from_slice-2.ensures.after ∙ c.copy_from_slice.ensures.after) in
-    let size : length kept ≡ 32 = omega (arith, c.copy_from_slice-2.ensures.len) in
-    rw (into, c.up_by_one-2.ensures)
-    (put_copied kept (a.i + a.n - 32 + 1) 32 _ size ∙ slid-up-steps a.i a.n 32 _ a.b.now kept (omega arith) (omega arith) (omega arith) (omega arith) same)
+    let kept = c.copy_step in
+    let moved = c.up_by_one-2 in
+    let back = c.copy_step-2 in
+    back.ensures ∙ rw (kept.ensures, moved.ensures) (slid-up-steps a.i a.n 32 _ a.b.now _ (omega arith) (omega arith) (omega arith) (omega arith) (omega arith))
