@@ -47,8 +47,7 @@ fn next_noted<E: Engine>(state: &mut [u8]) -> Result<Sent, Refusal>
     requires { TakesCalls state.old }
     ensures { leaving (next_told result) state.new ≡ replied state.old (next_call (state_of state.old)) }
 {
-    let end = BASE;
-    let sent = next_in::<E>(&mut state[..end])?;
+    let sent = next_in::<E>(&mut state[..BASE])?;
     note_sent(state, sent);
     Ok(sent)
 }
@@ -104,7 +103,7 @@ pub fn send(state: &mut [u8], chosen: Chosen) -> Sent
     Sent {
         slot: slot as u32,
         ticket: head.ticket,
-        length: first.length as u32,
+        length: u32::from(first.length),
         reference: first.reference,
         serial,
         started: chosen.started,
@@ -126,7 +125,7 @@ fn paying(head: Head, started: u32, cost: u32) -> Head
     requires { (head.deficit + started * granted ≤ grant_limit) × (cost ≤ head.deficit + started * granted) }
     ensures { result ≡ paid_head head started cost }
 {
-    let funded = head.deficit as u32 + started * GRANTED;
+    let funded = u32::from(head.deficit) + started * GRANTED;
     Head {
         deficit: (funded - cost) as u16,
         ..head

@@ -7,8 +7,8 @@ use Rattle.uplink.proofs.Lending.{base-takes, base-long}
 use Rattle.uplink.proofs.Asking.{ask_unnamed, ask_answered}
 use Rattle.uplink.proofs.ask.ask_in.Goals as goal
 
-pub slice_bounds-lookup-end : goal.slice_bounds-lookup-end
-slice_bounds-lookup-end c = sym (base-long c.args.state.now c.requires)
+pub slice_bounds-base-end : goal.slice_bounds-base-end
+slice_bounds-base-end c = sym (base-long c.args.state.now c.requires)
 
 pub lookup-requires : goal.lookup-requires
 lookup-requires c = (base-takes c.args.state.now c.requires).0
@@ -18,10 +18,6 @@ returns-in_err-head c =
     let a = c.args in
     let p = err_from_is_err_and c.from_residual.result c.from_residual.ensures.1 in
     rw (p.1, p.2) (ask_unnamed a.state.now a.slot a.ticket c.requires _ c.in_err-head.ensures)
-
-pub slice_bounds-waiting_of-end : goal.slice_bounds-waiting_of-end
-slice_bounds-waiting_of-end c =
-    sym (base-long c.args.state.now c.requires)
 
 pub waiting_of-waiting-requires : goal.waiting_of-waiting-requires
 waiting_of-waiting-requires c =
@@ -36,6 +32,7 @@ bytes_of-bytes-requires c =
 pub returns : goal.returns
 returns c =
     let channel = c.in_ok-head.ensures in
-    ask_answered c.args.state.now c.args.slot c.args.ticket c.requires c.in_ok-head.head channel
+    rw (c.from.ensures, c.from-2.ensures, c.from-3.ensures)
+    (ask_answered c.args.state.now c.args.slot c.args.ticket c.requires c.in_ok-head.head channel
     c.waiting_of-waiting.result c.bytes_of-bytes.result
-    c.waiting_of-waiting.ensures.0 c.bytes_of-bytes.ensures
+    c.waiting_of-waiting.ensures.0 c.bytes_of-bytes.ensures)

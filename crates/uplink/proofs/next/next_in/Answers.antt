@@ -2,7 +2,7 @@
 use Rattle.std.proofs.Common.{sym, ap, ◌∙◌}
 use Rattle.memory.specs.Memory.{replied_base}
 use Rattle.memory.proofs.OneMemory.{base-sound}
-use Rattle.uplink.proofs.SentState.{sent-ordered, no_rows, chooses, chose}
+use Rattle.uplink.proofs.SentState.{no_rows, chooses, chose}
 use Rattle.uplink.proofs.next.next_in.Goals as goal
 
 pub row_count-requires : goal.row_count-requires
@@ -22,11 +22,3 @@ choose-chosen-requires g c = chooses _ c.requires.0 c.row_count.ensures.0 c.if-r
 pub send-sent-requires : goal.send-sent-requires
 send-sent-requires g c =
     (chose _ c.requires.0 c.row_count.ensures.0 c.if-row_count-eq0.false c.choose-chosen.ensures, c.requires.1)
-
-pub order_again-requires : goal.order_again-requires
-order_again-requires g c =
-    let z = c.send-sent.ensures in
-    (z.unordered, z.slot_lt)
-
-pub returns : goal.returns
-returns g c = sent-ordered c.send-sent.ensures c.order_again.ensures
