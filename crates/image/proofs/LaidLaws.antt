@@ -2,17 +2,55 @@
 use mathlib.Core.Path.{◌≡◌, refl, sym, ap, ◌∙◌}
 use mathlib.Core.List.{List, [], ◌∷◌, ◌++◌, append_assoc, append-nil}
 use Prim.Native.Nat.{ℕ, zero, suc, ◌+◌, ◌-◌, ◌/◌, ◌%◌, ◌^◌, ◌≤◌, ◌<◌}
-use native.Mathlib.Nat.{not-suc-le-zero}
+use native.Mathlib.Nat.{not-suc-le-zero, pow-suc, div-div-eq-div-mul}
 use native.Mathlib.Numerals.{add-one}
 use native.Mathlib.Omega.{arith}
-use lib.ListN.{length, get_or, take, drop, length-append}
-use lib.Seq.{take_all, take-suc}
+use lib.ListN.{length, get_or, take, drop, set, length-append}
+use lib.Seq.{take_all, length-take-le, set-append_seam, take-suc}
 use Rattle.std.specs.Int.{bytes_high_first}
+use Rattle.octets.specs.Writing.{written}
+use Rattle.octets.proofs.WritingLaws.{written_none}
 use Rattle.image.specs.Parts.{high_first, widths, laid, span}
 use Rattle.image.specs.declared.parts.Part.{Part}
 use Rattle.image.proofs.PartLaws.{length-high_first, no_part}
 
--- ---- a number
+-- a byte put before what is written from the next place on
+written-before : (b : List ℕ) (at x : ℕ) (a : List ℕ) → at + 1 + length a ≤ length b → set (written b (at + 1) a) at x ≡ written b at (x ∷ a)
+written-before b at x a h =
+    let e : take (at + 1) b ≡ take at b ++ get_or b at 0 ∷ [] = ap (λ (n : ℕ). take n b) (add-one at) ∙ take-suc b at 0 (omega arith) in
+    let size : length (take at b) ≡ at = length-take-le at b (omega arith) in
+    let rest = a ++ drop (at + 1 + length a) b in
+    let n : at + 1 + length a ≡ at + suc (length a) = omega arith in
+    ap (λ (l : List ℕ). set (l ++ rest) at x) e
+    ∙ ap (λ (l : List ℕ). set l at x) (append_assoc (take at b) (get_or b at 0 ∷ []) rest)
+    ∙ ap (λ (i : ℕ). set (take at b ++ get_or b at 0 ∷ rest) i x) (sym size)
+    ∙ set-append_seam (take at b) (get_or b at 0) rest x
+    ∙ ap (λ (i : ℕ). take at b ++ x ∷ (a ++ drop i b)) n
+
+-- ---- a number, from its lowest byte on
+
+module _ (b : List ℕ) (at w n : ℕ) where
+  -- the bytes from i on stand, and the one before them is next
+  pub number-turn : (i : ℕ) → 0 < i → i ≤ w → at + w ≤ length b
+      → set (written b (at + i) (high_first (w - i) n)) (at + (i - 1)) (n / 256 ^ (w - i) % 256) ≡ written b (at + (i - 1)) (high_first (w - (i - 1)) n)
+  unfolding high_first
+  number-turn i pos le room =
+      let e : at + i ≡ at + (i - 1) + 1 = omega arith in
+      let more : w - (i - 1) ≡ suc (w - i) = omega arith in
+      rw (e, more) (written-before b (at + (i - 1)) (n / 256 ^ (w - i) % 256) (high_first (w - i) n) (omega (arith, length-high_first (w - i) n)))
+
+  pub number-rest : (i : ℕ) → 0 < i → i ≤ w → n / 256 ^ (w - i) / 256 ≡ n / 256 ^ (w - (i - 1))
+  number-rest i pos le =
+      let more : w - (i - 1) ≡ suc (w - i) = omega arith in
+      rw (more, pow-suc 256 (w - i)) (div-div-eq-div-mul n (256 ^ (w - i)) 256)
+
+  -- none yet, and all
+  pub number-none : written b (at + w) (high_first (w - w) n) ≡ b
+  unfolding high_first
+  number-none = let e : w - w ≡ 0 = omega arith in rw e (written_none b (at + w))
+
+  pub number-whole : written b (at + 0) (high_first (w - 0) n) ≡ written b at (high_first w n)
+  number-whole = let e : at + 0 ≡ at = omega arith in let f : w - 0 ≡ w = omega arith in rw (e, f)
 
 pub same-bytes : (k n : ℕ) → bytes_high_first k n ≡ high_first k n
 unfolding high_first

@@ -1,8 +1,7 @@
 // Numbers side by side in bytes.
 ghost use Rattle.std.specs.Prelude.{◌≡◌, ◌+◌, ◌≤◌, length};
-ghost use Rattle.std.specs.List.{All};
 ghost use Rattle.octets.specs.Wrote.{Wrote};
-ghost use Rattle.image.specs.Parts.{widths, laid, span};
+ghost use Rattle.image.specs.Parts.{high_first, widths, laid, span};
 
 use octets::writer::Writer;
 
@@ -24,13 +23,25 @@ impl Part {
     }
 }
 
+// A number in so many bytes, the last first.
+pub fn put_number(w: &mut Writer<'_>, width: usize, number: u64)
+    requires { w.old.at + width ≤ length w.old.out.now }
+    ensures { Wrote w.old (high_first width number) w.new }
+{
+    let mut rest = number;
+    for k in (0..width).rev() {
+        w.out[w.at + k] = (rest % 256) as u8;
+        rest /= 256;
+    }
+    w.at += width;
+}
+
 // Parts, one after the other.
 pub fn put_parts(w: &mut Writer<'_>, parts: &[Part])
-    requires { All (λ p. p.width ≤ 8) parts.now × (w.old.at + span (widths parts.now) ≤ length w.old.out.now) }
+    requires { w.old.at + span (widths parts.now) ≤ length w.old.out.now }
     ensures { Wrote w.old (laid parts.now) w.new }
 {
     for part in parts {
-        let bytes = part.number.to_be_bytes();
-        w.bytes(&bytes[8 - part.width..]);
+        put_number(w, part.width, part.number);
     }
 }
