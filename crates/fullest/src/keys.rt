@@ -1,7 +1,6 @@
 // A slot's key, and the greatest one below a limit.
-ghost use Rattle.std.specs.Prelude.{◌≡◌, cond, ◌+◌, ◌-◌, ◌*◌, ◌<◌, ltb, length};
+ghost use Rattle.std.specs.Prelude.{◌≡◌, cond, ◌+◌, ◌-◌, ◌*◌, ◌<◌, ltb};
 ghost use Rattle.rules.specs.Numbers.{slots};
-ghost use Rattle.memory.specs.Layout.{memory_length};
 ghost use Rattle.memory.specs.Reading.{bytes_at};
 ghost use Rattle.fullest.specs.Keys.{key};
 ghost use Rattle.fullest.specs.Moved.{next_below, slot_of_key};
@@ -18,13 +17,6 @@ pub const LEAST: u32 = SLOTS as u32;
 // What the last slot's key falls short of it.
 pub const LAST: u32 = LEAST - 1;
 
-// A byte as an index.
-pub fn wide(x: u8) -> usize
-    ensures { (result ≡ x) × (result < 256) }
-{
-    x as usize
-}
-
 // The number of two bytes: in a loop over two lines the compiler makes it by one step for eight numbers.
 pub fn two(low: u8, high: u8) -> u16
     ensures { result ≡ low + 256 * high }
@@ -33,7 +25,7 @@ pub fn two(low: u8, high: u8) -> u16
 }
 
 // The key of a slot with these bytes waiting.
-pub fn key_of(low: u8, high: u8, slot: usize) -> u32
+fn key_of(low: u8, high: u8, slot: usize) -> u32
     requires { slot < slots }
     ensures { result ≡ slots * (low + 256 * high) + (slots - 1 - slot) }
 {
@@ -41,8 +33,8 @@ pub fn key_of(low: u8, high: u8, slot: usize) -> u32
 }
 
 // A slot's key.
-pub fn key_at(state: &[u8], slot: usize) -> u32
-    requires { (length state.now ≡ memory_length) × (slot < slots) }
+pub fn key_at(state: &Memory, slot: usize) -> u32
+    requires { slot < slots }
     ensures { result ≡ key (bytes_at state.now) slot }
 {
     key_of(state[BYTES + slot], state[BYTES + SLOTS + slot], slot)

@@ -47,8 +47,7 @@ impl Line {
         ensures { (length result ≤ n) × (result ≡ without slot (slots_from state.now 0 n)) }
     {
         let mut line = Line::new();
-        for k in 0..n {
-            let t = state[FULLEST + k];
+        for &t in &state[FULLEST..FULLEST + n] {
             if usize::from(t) != slot {
                 line.push(t);
             }

@@ -10,7 +10,6 @@ ghost use Rattle.uplink.specs.Told.{entry_told, nobody, fullest_told, ZerosBehin
 use super::admitted::admitted;
 use super::{Listed, Place};
 use answers::Refusal;
-use fullest::keys::wide;
 use fullest::noting::bytes_of;
 use memory::layout::{FULLEST, LISTED_COUNT};
 
@@ -27,7 +26,7 @@ fn fullest_in(state: &[u8]) -> Result<Listed, Refusal>
     requires { TakesCalls state.now }
     ensures { (leaving (fullest_told result) state.now ≡ replied state.now (fullest_call (state_of state.now))) × ZerosBehind result }
 {
-    let count = wide(state[LISTED_COUNT]) as u32;
+    let count = u32::from(state[LISTED_COUNT]);
     let places = [
         place_at(state, 0),
         place_at(state, 1),
@@ -43,10 +42,10 @@ fn place_at(state: &[u8], k: usize) -> Place
     requires { TakesCalls state.now × (k < listed) }
     ensures { entry_told result ≡ slice_index_or (entries (state_of state.now)) k nobody }
 {
-    if wide(state[LISTED_COUNT]) <= k {
+    if usize::from(state[LISTED_COUNT]) <= k {
         return Place { slot: 0, bytes: 0 };
     }
-    let slot = wide(state[FULLEST + k]);
+    let slot = usize::from(state[FULLEST + k]);
     let bytes = bytes_of(state, slot);
     Place {
         slot: slot as u32,

@@ -1,5 +1,5 @@
 -- The limit of fewer than five is the least key of a slot with bytes waiting; of five it is the key of the last.
-use Rattle.std.proofs.Common.{◌≡◌, arith, rules}
+use Rattle.std.proofs.Common.{◌≡◌, arith}
 use Rattle.soundness.proofs.ListLaws.{last-slot, limit-five, limit-fewer}
 use Rattle.soundness.proofs.list.count_for.Goals as goal
 
@@ -9,7 +9,7 @@ returns-then-n-lt-LISTED c = limit-fewer _ _ _ c.if-n-lt-LISTED.true c.count_fil
 pub key_at-requires : goal.key_at-requires
 key_at-requires c =
     let five : c.args.n ≡ 5 = omega arith in
-    (search rules, omega (arith, last-slot _ _ five c.requires.1))
+    omega (arith, last-slot _ _ five c.requires.1)
 
 pub returns : goal.returns
 returns c =

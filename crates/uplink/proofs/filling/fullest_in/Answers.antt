@@ -11,6 +11,6 @@ bounds-state-4096 c =
 
 pub returns : goal.returns
 returns c =
-    five-told c.args.state.now c.requires c.wide-count.result
+    five-told c.args.state.now c.requires c.from-count.result
     (entry_told c.place_at.result) (entry_told c.place_at-2.result) (entry_told c.place_at-3.result) (entry_told c.place_at-4.result) (entry_told c.place_at-5.result)
-    c.wide-count.ensures.0 c.place_at.ensures c.place_at-2.ensures c.place_at-3.ensures c.place_at-4.ensures c.place_at-5.ensures
+    c.from-count.ensures c.place_at.ensures c.place_at-2.ensures c.place_at-3.ensures c.place_at-4.ensures c.place_at-5.ensures

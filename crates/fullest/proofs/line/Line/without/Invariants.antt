@@ -6,5 +6,5 @@ use Rattle.fullest.specs.Listing.{slots_from}
 use Rattle.fullest.specs.Moved.{without}
 use Rattle.fullest.proofs.line.Line.without.Given as goal
 
-abbrev pub invariant-loop-k : goal.invariant-loop-k
-invariant-loop-k l = (length l.line ≤ l.k) × (l.line ≡ without l.slot (slots_from l.state 0 l.k))
+abbrev pub invariant-loop-t : goal.invariant-loop-t
+invariant-loop-t l = (length l.line ≤ l.t-index) × (l.line ≡ without l.slot (slots_from l.state 0 l.t-index))
