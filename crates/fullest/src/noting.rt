@@ -21,6 +21,7 @@ pub fn bytes_of(state: &[u8], slot: usize) -> u16
 }
 
 // So many bytes wait in a slot now: one number is written, and one entry of the list is moved.
+// A slice, as its callers lend it: tried as an array, whose elements the check does not know to be bytes after a call has altered them.
 pub fn note(state: &mut [u8], slot: usize, bytes: u16)
     requires { Noted state.old × (slot < slots) }
     ensures { ((f : ℕ → ℕ) → NotedBy f state.old → NotedBy (now_in f slot bytes) state.new) × (base state.new ≡ base state.old) }

@@ -56,5 +56,5 @@ impl Engine for Jumping {
 fn larger(order: u8, weight: Weight) -> u8
     ensures { result ≡ max order (bits_of weight) }
 {
-    order.max(order_of(weight as u32) as u8)
+    order.max(order_of(u32::from(weight)) as u8)
 }

@@ -103,7 +103,7 @@ pub fn send(state: &mut Base, chosen: Chosen) -> Sent
     Sent {
         slot: slot as u32,
         ticket: head.ticket,
-        length: first.length as u32,
+        length: u32::from(first.length),
         reference: first.reference,
         serial,
         started: chosen.started,
@@ -125,7 +125,7 @@ fn paying(head: Head, started: u32, cost: u32) -> Head
     requires { (head.deficit + started * granted ≤ grant_limit) × (cost ≤ head.deficit + started * granted) }
     ensures { result ≡ paid_head head started cost }
 {
-    let funded = head.deficit as u32 + started * GRANTED;
+    let funded = u32::from(head.deficit) + started * GRANTED;
     Head {
         deficit: (funded - cost) as u16,
         ..head

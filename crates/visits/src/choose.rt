@@ -58,6 +58,7 @@ pub fn open_visit(state: &Base, scan: Scan) -> Chosen
 
 // The terms up to the next column that has a row are taken in one jump: in this round, or through its end, after which the order is the rows' and position 1 has
 // one. (In edition 1 the order is theirs all the while, and P turns to 1.)
+// Widened by `as`: with a call of `from` each answer has to be told its result first.
 fn jumped(state: &Base, order: u8, scan: Scan) -> Chosen
     requires { Chooses state.now scan × (order ≡ (state_of state.now).order) × (scan.visit ≡ 0) × (scan.mask ≡ 0) }
     ensures { some result ≡ map in_chosen (chosen_of (state_of state.now)) }

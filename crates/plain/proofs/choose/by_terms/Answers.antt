@@ -5,8 +5,5 @@ use Rattle.plain.proofs.choose.by_terms.Goals as goal
 pub filled-matrix-requires : goal.filled-matrix-requires
 filled-matrix-requires c = rows_of c.requires.memory
 
-pub column_found-found-requires : goal.column_found-found-requires
-column_found-found-requires c = (c.requires, c.filled-matrix.ensures, c.copied-table.ensures)
-
 pub column_visited-requires : goal.column_visited-requires
 column_visited-requires c = (rows_of c.requires.memory, c.filled-matrix.ensures, c.column_found-found.ensures)

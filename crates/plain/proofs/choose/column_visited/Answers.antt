@@ -16,9 +16,6 @@ unwrap-row-requires c =
     let listed : is_empty (marks_in (get_or c.args.matrix.now c.from.result []) (state_of b).rows) ≡ false = rw c.from.ensures (ap is_empty (column_marks b _ P.1 P.2.low) ∙ P.2.found) in
     some_first _ (state_of b).rows _ (rows-length b ∙ sym c.row_count.ensures.0) _ c.first_marked.ensures listed
 
-pub first_visit-requires : goal.first_visit-requires
-first_visit-requires c = (c.requires.0, rw c.row_count.ensures.0 at (sym c.unwrap-row.ensures ∙ c.first_marked.ensures))
-
 pub returns : goal.returns
 returns c =
     let P = c.requires in

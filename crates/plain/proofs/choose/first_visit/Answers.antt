@@ -2,7 +2,6 @@
 use Prim.Native.Nat.{ℕ, suc, ◌+◌}
 use mathlib.Core.List.{List}
 use mathlib.Core.Path.{◌≡◌, refl}
-use native.Mathlib.Omega.{arith}
 use native.Mathlib.Numerals.{add-one}
 use lib.ListN.{get_or, set}
 use Rattle.bits.specs.Mask.{mask_of}
@@ -26,18 +25,6 @@ visit-is x {i} {j} l e f g = rw (e, f, g, add-one j) refl
 module _ (b m : List ℕ) (r : ℕ) (e : Some r ≡ first_mark m (row_count_at b)) where
   first : (r < row_count_at b) × (marks_in m (state_of b).rows ≡ get_or (state_of b).rows r 0 ∷ marks_in (set m r 0) (state_of b).rows)
   first = marks_first m (state_of b).rows (row_count_at b) (rows-length b) r e
-
-pub bounds-list-row : goal.bounds-list-row
-bounds-list-row c = omega (arith, c.requires.0.few, (first c.args.state.now c.args.list.now c.args.row c.requires.1).0)
-
-pub row_at-slot-requires : goal.row_at-slot-requires
-row_at-slot-requires c = (c.requires.0, (first c.args.state.now c.args.list.now c.args.row c.requires.1).0)
-
-pub overflow_cast-visit : goal.overflow_cast-visit
-overflow_cast-visit c = omega (arith, c.row_at-slot.ensures.1)
-
-pub overflow_add-visit : goal.overflow_add-visit
-overflow_add-visit c = omega (arith, c.row_at-slot.ensures.1)
 
 pub returns : goal.returns
 returns c =

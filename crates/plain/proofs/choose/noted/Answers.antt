@@ -1,12 +1,9 @@
 -- Whether there is a first mark tells whether a row is listed.
-use Rattle.std.proofs.Common.{sym, ◌∙◌, arith}
+use Rattle.std.proofs.Common.{sym, ◌∙◌}
 use Rattle.memory.specs.Reading.{state_of}
 use Rattle.memory.proofs.SearchLaws.{rows-length}
 use Rattle.plain.proofs.MarkLaws.{noted_some, noted_none}
 use Rattle.plain.proofs.choose.noted.Goals as goal
-
-pub first_marked-requires : goal.first_marked-requires
-first_marked-requires c = omega (arith, c.requires.few, c.row_count.ensures.0)
 
 pub returns-then-is_some : goal.returns-then-is_some
 returns-then-is_some c =

@@ -10,9 +10,6 @@ use Rattle.plain.proofs.MatrixLaws.{column-none, column-some}
 use Rattle.plain.proofs.ScanLaws.{Before, After, begins-before, before-round, term-after, after-ends, round-before, round-terms, after_finds}
 use Rattle.plain.proofs.scan.column_found.Goals as goal
 
-pub row_count-count-requires : goal.row_count-count-requires
-row_count-count-requires c = c.requires.0.memory.size
-
 pub term_taken-place-requires : goal.term_taken-place-requires
 term_taken-place-requires c = let P = c.requires in (P.2, before-round P.0.memory P.0.filled (begins-before P.0))
 

@@ -1,12 +1,9 @@
 -- The test is the rules', and the highest column is the order of the rows.
-use Prim.Native.Nat.{ℕ, ◌+◌, ◌^◌, ◌≤◌}
+use Prim.Native.Nat.{ℕ, ◌+◌, ◌^◌}
 use mathlib.Core.Bool.{Bool, true, false, ◌&&◌}
 use mathlib.Core.List.{List}
 use mathlib.Core.Path.{◌≡◌, refl, sym, ap, ap₂, ◌∙◌}
-use native.Mathlib.Omega.{arith}
 use lib.Dec.{eqb}
-use lib.Pow.{pow_mono}
-use Rattle.spread.specs.Limits.{columns}
 use Rattle.rules.specs.State.{weights, order_of, holds}
 use Rattle.memory.proofs.RoundOver.{holds_read}
 use Rattle.memory.specs.Reading.{state_of}
@@ -26,28 +23,6 @@ module _ (b : List ℕ) (x : Place) {h : Bool} {t : ℕ} (held : h ≡ holds_at 
 
   stays-there : h && eqb (x.position + 1) t ≡ false → x ≡ next_round (state_of b) x
   stays-there q = rw (sym test_is ∙ q) refl
-
-pub holds-held-requires : goal.holds-held-requires
-holds-held-requires c = c.requires.0.rows.size
-
-pub overflow_add-place : goal.overflow_add-place
-overflow_add-place c =
-    let x = c.args.place in
-    let E = c.requires.0 in
-    let most : 2 ^ x.order ≤ 2 ^ columns = pow_mono E.most in
-    omega (arith, E.position)
-
-pub turns-requires : goal.turns-requires
-turns-requires c = rw c.from.ensures c.requires.0.most
-
-pub row_count-requires : goal.row_count-requires
-row_count-requires c = c.requires.0.rows.size
-
-pub order_in-order-requires : goal.order_in-order-requires
-order_in-order-requires c = omega (arith, c.requires.0.rows.few, c.row_count.ensures.0)
-
-pub overflow_cast-order : goal.overflow_cast-order
-overflow_cast-order c = omega (arith, c.order_in-order.ensures.most)
 
 pub returns-then-held-place : goal.returns-then-held-place
 returns-then-held-place c =

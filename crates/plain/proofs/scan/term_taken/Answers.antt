@@ -18,9 +18,6 @@ taken_is : (x : Place) {p t : ℕ} → p ≡ next_position x.order x.position �
 unfolding column_at
 taken_is x e f = rw (f, e) refl
 
-pub next_position-position-requires : goal.next_position-position-requires
-next_position-position-requires c = rw c.from.ensures (c.requires.1.most, c.requires.1.position)
-
 pub term_in-term-requires : goal.term_in-term-requires
 term_in-term-requires c =
     let x = c.args.place in
@@ -35,9 +32,6 @@ overflow_sub-result c =
     let R = c.requires.1 in
     let (low, high) = next-position x.order x.position R.least R.position in
     rw (c.term_in-term.ensures, c.from-2.ensures, c.next_position-position.ensures, c.from.ensures) (omega (arith, term-le x.order (next_position x.order x.position) (omega arith) high))
-
-pub overflow_add-result : goal.overflow_add-result
-overflow_add-result c = omega (arith, c.requires.1.few)
 
 pub returns : goal.returns
 returns c = taken_is c.args.place (rw c.from.ensures at c.next_position-position.ensures) (rw c.from-2.ensures at c.term_in-term.ensures)

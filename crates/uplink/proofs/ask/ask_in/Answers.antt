@@ -36,6 +36,7 @@ pub returns : goal.returns
 returns c =
     let front = rw c.unwrap-base.ensures at c.first_chunk.ensures.cases in
     let channel = rw front.same at c.in_ok-head.ensures in
-    ask_answered c.args.state.now c.args.slot c.args.ticket c.requires c.in_ok-head.head channel
+    rw (c.from.ensures, c.from-2.ensures, c.from-3.ensures)
+    (ask_answered c.args.state.now c.args.slot c.args.ticket c.requires c.in_ok-head.head channel
     c.waiting_of-waiting.result c.bytes_of-bytes.result
-    (rw front.same at c.waiting_of-waiting.ensures.0) c.bytes_of-bytes.ensures
+    (rw front.same at c.waiting_of-waiting.ensures.0) c.bytes_of-bytes.ensures)

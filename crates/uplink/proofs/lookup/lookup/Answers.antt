@@ -1,5 +1,5 @@
 -- Each test of the lookup is a part of the first two checks, asked of the numbers that stand in the slot.
-use Rattle.std.proofs.Common.{sym, refl, ◌∙◌, inl, inr, arith, le-leb}
+use Rattle.std.proofs.Common.{sym, refl, ◌∙◌, inr, arith}
 use borrow.Author.Tests.{lt-leb}
 use Rattle.rules.specs.Numbers.{slots}
 use Rattle.rules.specs.State.{at}
@@ -8,9 +8,6 @@ use Rattle.uplink.specs.Found.{HeadIn}
 use Rattle.uplink.proofs.Lending.{sound-holds}
 use Rattle.uplink.proofs.Named.{kind-is, ticket_is, head-held, absent-free, absent-other, absent-not}
 use Rattle.uplink.proofs.lookup.lookup.Goals as goal
-
-pub returns-then-slot : goal.returns-then-slot
-returns-then-slot c = inl (le-leb slots _ c.if-slot.true, refl)
 
 pub load_head-head-requires : goal.load_head-head-requires
 load_head-head-requires c = omega arith

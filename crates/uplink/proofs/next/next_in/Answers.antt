@@ -1,7 +1,7 @@
 -- A sound memory stands for a sound state: without rows it is 8, else the slot chosen sends, and the order is worked out again.
 use Rattle.std.proofs.Common.{sym, ap, ◌∙◌}
 use Rattle.memory.specs.Memory.{replied_base}
-use Rattle.uplink.proofs.SentState.{sent-ordered, no_rows, chooses, chose}
+use Rattle.uplink.proofs.SentState.{no_rows, chooses, chose}
 use Rattle.uplink.proofs.next.next_in.Goals as goal
 
 pub returns-then-row_count-eq0 : goal.returns-then-row_count-eq0
@@ -15,11 +15,3 @@ choose-chosen-requires g c = chooses _ c.requires.0 c.row_count.ensures.0 c.if-r
 pub send-sent-requires : goal.send-sent-requires
 send-sent-requires g c =
     (chose _ c.requires.0 c.row_count.ensures.0 c.if-row_count-eq0.false c.choose-chosen.ensures, c.requires.1)
-
-pub order_again-requires : goal.order_again-requires
-order_again-requires g c =
-    let z = c.send-sent.ensures in
-    (z.unordered, z.slot_lt)
-
-pub returns : goal.returns
-returns g c = sent-ordered c.send-sent.ensures c.order_again.ensures

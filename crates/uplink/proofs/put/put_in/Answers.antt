@@ -44,13 +44,13 @@ returns-then-head-eq2 c =
     puts-refused
     (put-closing a.state.now a.slot a.ticket a.length a.reference c.requires.1 c.in_ok-head.head channel c.if-head-eq2.true)
 
-pub returns-then-bad_length : goal.returns-then-bad_length
-returns-then-bad_length c =
+pub returns-then-outside : goal.returns-then-outside
+returns-then-outside c =
     let channel = c.in_ok-head.ensures in
     let a = c.args in
     puts-refused
     (put-bad-length a.state.now a.slot a.ticket a.length a.reference c.requires.1 c.in_ok-head.head channel
-    c.if-head-eq2.false (sym c.bad_length.ensures ∙ c.if-bad_length.true))
+    c.if-head-eq2.false (sym c.outside.ensures ∙ c.if-outside.true))
 
 pub waiting_of-waiting-requires : goal.waiting_of-waiting-requires
 waiting_of-waiting-requires c =
@@ -60,7 +60,7 @@ waiting_of-waiting-requires c =
 pub returns-then-waiting-ge-ROOM : goal.returns-then-waiting-ge-ROOM
 returns-then-waiting-ge-ROOM c =
     let channel = c.in_ok-head.ensures in
-    let good_length : outside 1 longest c.args.length ≡ false = sym c.bad_length.ensures ∙ c.if-bad_length.false in
+    let good_length : outside 1 longest c.args.length ≡ false = sym c.outside.ensures ∙ c.if-outside.false in
     let a = c.args in
     puts-refused
     (put_full a.state.now a.slot a.ticket a.length a.reference c.requires.1 c.in_ok-head.head channel
@@ -70,7 +70,7 @@ returns-then-waiting-ge-ROOM c =
 pub returns-then-no_cell : goal.returns-then-no_cell
 returns-then-no_cell c =
     let channel = c.in_ok-head.ensures in
-    let good_length : outside 1 longest c.args.length ≡ false = sym c.bad_length.ensures ∙ c.if-bad_length.false in
+    let good_length : outside 1 longest c.args.length ≡ false = sym c.outside.ensures ∙ c.if-outside.false in
     let a = c.args in
     puts-refused
     (put_no_cell a.state.now a.slot a.ticket a.length a.reference c.requires.1 c.in_ok-head.head channel
@@ -80,17 +80,10 @@ returns-then-no_cell c =
     c.if-head-eq2.false (sound-holds _ c.requires.0) good_length c.waiting_of-waiting.result c.waiting_of-waiting.ensures.0
     c.if-waiting-ge-ROOM.false c.no_cell.result c.no_cell.ensures ∙ c.if-no_cell.true))
 
-pub overflow_cast-length : goal.overflow_cast-length
-overflow_cast-length c =
-    let good_length : outside 1 longest c.args.length ≡ false = sym c.bad_length.ensures ∙ c.if-bad_length.false in
-    let low : c.args.length ≤ longest
-    = (between 1 longest _ good_length).1 in
-    record { fits = lt_of_le_of_lt low (omega arith) }
-
 pub take-requires : goal.take-requires
 take-requires c =
     let channel = c.in_ok-head.ensures in
-    let good_length : outside 1 longest c.args.length ≡ false = sym c.bad_length.ensures ∙ c.if-bad_length.false in
+    let good_length : outside 1 longest c.args.length ≡ false = sym c.outside.ensures ∙ c.if-outside.false in
     let waits : c.waiting_of-waiting.result ≡ length (at (state_of c.args.state.now).channels c.args.slot).waiting = let a = c.args in
     waits_in a.state.now a.slot a.ticket a.length a.reference c.requires.1 c.in_ok-head.head channel
     c.if-head-eq2.false (sound-holds _ c.requires.0) good_length c.waiting_of-waiting.result c.waiting_of-waiting.ensures.0 in
@@ -103,7 +96,7 @@ take-requires c =
 pub join_row-requires : goal.join_row-requires
 join_row-requires c =
     let channel = c.in_ok-head.ensures in
-    let good_length : outside 1 longest c.args.length ≡ false = sym c.bad_length.ensures ∙ c.if-bad_length.false in
+    let good_length : outside 1 longest c.args.length ≡ false = sym c.outside.ensures ∙ c.if-outside.false in
     let waits : c.waiting_of-waiting.result ≡ length (at (state_of c.args.state.now).channels c.args.slot).waiting = let a = c.args in
     waits_in a.state.now a.slot a.ticket a.length a.reference c.requires.1 c.in_ok-head.head channel
     c.if-head-eq2.false (sound-holds _ c.requires.0) good_length c.waiting_of-waiting.result c.waiting_of-waiting.ensures.0 in
@@ -126,7 +119,7 @@ join_row-requires c =
 pub returns-then-waiting-eq0 : goal.returns-then-waiting-eq0
 returns-then-waiting-eq0 c =
     let channel = c.in_ok-head.ensures in
-    let good_length : outside 1 longest c.args.length ≡ false = sym c.bad_length.ensures ∙ c.if-bad_length.false in
+    let good_length : outside 1 longest c.args.length ≡ false = sym c.outside.ensures ∙ c.if-outside.false in
     let waits : c.waiting_of-waiting.result ≡ length (at (state_of c.args.state.now).channels c.args.slot).waiting = let a = c.args in
     waits_in a.state.now a.slot a.ticket a.length a.reference c.requires.1 c.in_ok-head.head channel
     c.if-head-eq2.false (sound-holds _ c.requires.0) good_length c.waiting_of-waiting.result c.waiting_of-waiting.ensures.0 in
@@ -158,7 +151,7 @@ returns-then-waiting-eq0 c =
 pub returns : goal.returns
 returns c =
     let channel = c.in_ok-head.ensures in
-    let good_length : outside 1 longest c.args.length ≡ false = sym c.bad_length.ensures ∙ c.if-bad_length.false in
+    let good_length : outside 1 longest c.args.length ≡ false = sym c.outside.ensures ∙ c.if-outside.false in
     let free : (let a = c.args in no_cell (at (state_of a.state.now).channels a.slot) (shared_use (state_of a.state.now).channels) ≡ false) = let a = c.args in
     cell_in a.state.now a.slot a.ticket a.length a.reference c.requires.1 c.in_ok-head.head channel
     c.if-head-eq2.false (sound-holds _ c.requires.0) good_length c.waiting_of-waiting.result c.waiting_of-waiting.ensures.0
