@@ -35,6 +35,7 @@ fn print_line(state: &mut [u8], text: &[u8], at: usize) -> Option<usize>
 // Every line of the text, until a write fails.
 fn print_all(state: &mut [u8], text: &[u8]) {
     let mut at = 0;
+    // A while: each turn goes on behind a whole line, and a `for` has no place that a line moves.
     while at < text.len() {
         let Some(next) = print_line(state, text, at) else {
             return;
