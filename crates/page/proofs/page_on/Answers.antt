@@ -20,9 +20,6 @@ rowless-none b u e =
     let refuses : ((state_of b).parked || is_empty (state_of b).rows) ≡ true = rw (u, none) refl in
     rw refuses
 
-pub row_count-requires : goal.row_count-requires
-row_count-requires c = (base-sound c.args.state.now c.requires.0.0).size
-
 pub returns-then-row_count-eq0 : goal.returns-then-row_count-eq0
 returns-then-row_count-eq0 c =
     stands-none (rowless-none c.args.state.now c.requires.0.1 (sym c.row_count.ensures.0 ∙ c.if-row_count-eq0.true))
