@@ -21,7 +21,7 @@ use Rattle.rules.proofs.RoundEnd.{ending_not}
 use Rattle.memory.specs.declared.heads.Head.{Head}
 use Rattle.memory.specs.declared.point.Scan.{Scan}
 use Rattle.memory.specs.Names as the
-use Rattle.memory.specs.Layout.{bytes_of, base_length}
+use Rattle.memory.specs.Layout.{bytes_of}
 use Rattle.memory.specs.Reading.{number_in, byte_in, waiting_at, state_of}
 use Rattle.memory.specs.Fits.{Fits}
 use Rattle.memory.specs.Search.{RowsWait}
@@ -105,9 +105,9 @@ none_left [] = refl
 none_left (x ∷ xs) = ne_eqb (suc (length xs)) 0 (λ (e : suc (length xs) ≡ 0). omega arith)
 
 module _ {b : List ℕ} (u : Unordered b) where
-  pub order-within : (length b ≡ base_length) × (byte_in the.order b 0 ≤ columns)
+  pub order-low-read : byte_in the.order b 0 ≤ columns
   unfolding state_of
-  order-within = (u.waits.size, u.order-low)
+  order-low-read = u.order-low
 
   pub position_here : number_in the.position b 0 ≡ (state_of b).scan.position
   unfolding state_of

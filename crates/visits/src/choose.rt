@@ -11,7 +11,7 @@ ghost use Rattle.visits.specs.Choice.{chosen_of, in_chosen, landed_in, Visits, C
 
 use super::step::{start_visit, take_term};
 use bits::order_of;
-use memory::layout::Position;
+use memory::layout::{Base, Position};
 use memory::point::{Scan, load_order, turns};
 use memory::search::{column_of, first_in, union_of_rows};
 use spread::jump::{column_at, next_filled};
@@ -28,7 +28,7 @@ pub struct Chosen {
 }
 
 // "If a visit is open, its slot is chosen. Else, if slots remain to visit, the first of them in row order starts a visit." Else terms are taken until there is one.
-pub fn choose(state: &[u8], scan: Scan) -> Chosen
+pub fn choose(state: &Base, scan: Scan) -> Chosen
     requires { Chooses state.now scan }
     ensures { some result ≡ map in_chosen (chosen_of (state_of state.now)) }
 {
@@ -43,7 +43,7 @@ pub fn choose(state: &[u8], scan: Scan) -> Chosen
 }
 
 // "If a visit is open, its slot is chosen."
-pub fn open_visit(state: &[u8], scan: Scan) -> Chosen
+pub fn open_visit(state: &Base, scan: Scan) -> Chosen
     requires { Chooses state.now scan × (scan.visit ≡ 0 → ⊥) }
     ensures { some result ≡ map in_chosen (chosen_of (state_of state.now)) }
 {
@@ -59,7 +59,7 @@ pub fn open_visit(state: &[u8], scan: Scan) -> Chosen
 // The terms up to the next column that has a row are taken in one jump: in this round, or through its end, after which the order is the rows' and position 1 has
 // one. (In edition 1 the order is theirs all the while, and P turns to 1.)
 // Widened by `as`: with a call of `from` each answer has to be told its result first.
-fn jumped(state: &[u8], order: u8, scan: Scan) -> Chosen
+fn jumped(state: &Base, order: u8, scan: Scan) -> Chosen
     requires { Chooses state.now scan × (order ≡ (state_of state.now).order) × (scan.visit ≡ 0) × (scan.mask ≡ 0) }
     ensures { some result ≡ map in_chosen (chosen_of (state_of state.now)) }
 {
@@ -75,7 +75,7 @@ fn jumped(state: &[u8], order: u8, scan: Scan) -> Chosen
 }
 
 // The first slot to visit, in row order, starts its visit and goes off the list.
-fn first_visit(state: &[u8], terms: u32, order: u8, mut scan: Scan) -> Chosen
+fn first_visit(state: &Base, terms: u32, order: u8, mut scan: Scan) -> Chosen
     requires { RowsWithin state.now × (first_slot (in_mask scan.mask (state_of state.now).rows) < slots) }
     ensures { Visits terms order scan (first_slot (in_mask scan.mask (state_of state.now).rows)) result }
 {
@@ -91,7 +91,7 @@ fn first_visit(state: &[u8], terms: u32, order: u8, mut scan: Scan) -> Chosen
 }
 
 // The term at a position of a round of the order is taken: "the column is k minus the term", and all its rows become the slots to visit.
-fn landed(state: &[u8], order: u32, position: Position, mut scan: Scan) -> Scan
+fn landed(state: &Base, order: u32, position: Position, mut scan: Scan) -> Scan
     requires { RowsWithin state.now × (order ≤ columns) × (0 < position) × (position < 2 ^ order) }
     ensures { result ≡ landed_in (state_of state.now) order position scan }
 {

@@ -9,13 +9,13 @@ ghost use Rattle.memory.specs.Reading.{state_of};
 ghost use Rattle.visits.specs.Order.{reordered, order_of_rows, falls_order, asks_order, ordered, Unordered};
 
 use memory::heads::waiting_of;
-use memory::layout::Position;
+use memory::layout::{Base, Position};
 use memory::point::{
     Scan, holds, load_position, load_scan, round_over, store_order, store_scan, turns,
 };
 
 // Whether the order is to be worked out: it falls, or the round is over.
-pub fn asks(state: &[u8], slot: usize) -> bool
+pub fn asks(state: &Base, slot: usize) -> bool
     requires { Unordered state.now × (slot < slots) }
     ensures { result ≡ asks_order (state_of state.now) slot }
 {
@@ -25,7 +25,7 @@ pub fn asks(state: &[u8], slot: usize) -> bool
 }
 
 // The order that whoever was asked has found, and P with it.
-pub fn order_found(state: &mut [u8], slot: usize, order: u32)
+pub fn order_found(state: &mut Base, slot: usize, order: u32)
     requires { Unordered state.old × (slot < slots) × (asks_order (state_of state.old) slot ≡ true) × (order ≡ order_of_rows (state_of state.old)) }
     ensures { state.new ≡ bytes_of (ordered slot (state_of state.old)) }
 {
@@ -34,7 +34,7 @@ pub fn order_found(state: &mut [u8], slot: usize, order: u32)
 }
 
 // Whether the order falls: the slot has sent its last record, so that its row has left, and the order is not held.
-fn falls(state: &[u8], slot: usize) -> bool
+fn falls(state: &Base, slot: usize) -> bool
     requires { Unordered state.now × (slot < slots) }
     ensures { result ≡ falls_order (state_of state.now) slot }
 {
@@ -44,7 +44,7 @@ fn falls(state: &[u8], slot: usize) -> bool
 }
 
 // Where the order falls "P becomes P mod 2^k", and where the round is over "P is 0".
-fn position_left(state: &[u8], slot: usize, order: u32) -> Position
+fn position_left(state: &Base, slot: usize, order: u32) -> Position
     requires { Unordered state.now × (slot < slots) × (order ≤ columns) }
     ensures { result ≡ cond (falls_order (state_of state.now) slot) ((state_of state.now).scan.position % 2 ^ order) 0 }
 {
@@ -56,7 +56,7 @@ fn position_left(state: &[u8], slot: usize, order: u32) -> Position
 }
 
 // The memory with another order, and another P.
-fn reorder(state: &mut [u8], order: u32, position: Position)
+fn reorder(state: &mut Base, order: u32, position: Position)
     requires { Unordered state.old × (order ≤ columns) }
     ensures { state.new ≡ bytes_of (reordered (state_of state.old) order position) }
 {

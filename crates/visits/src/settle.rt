@@ -17,6 +17,7 @@ ghost use Rattle.visits.specs.Settle.{Settles, pointed, Settling, rowless, unord
 
 use super::choose::Chosen;
 use memory::heads::{Head, store_head, waiting_of};
+use memory::layout::Base;
 use memory::point::{Scan, store_order, store_scan};
 use memory::records::{load_record, take_record};
 use memory::rows::leave_row;
@@ -24,7 +25,7 @@ use rules::cost_of;
 
 // The oldest record of the slot chosen leaves its place, and the visit is settled by what still waits, but for the order. The head has paid; the scan point chosen
 // has the visit open. (The head is not stored yet when the record leaves.)
-pub fn settle(state: &mut [u8], chosen: Chosen, place: usize, head: Head)
+pub fn settle(state: &mut Base, chosen: Chosen, place: usize, head: Head)
     requires { Settles state.old chosen.slot head chosen.order chosen.scan × (place ≡ first_at state.old chosen.slot) }
     ensures { (z : Settles state.old chosen.slot head chosen.order chosen.scan)
         → state.new ≡ bytes_of (unordered z.rest (pointed z) chosen.slot z.channel) }
@@ -36,7 +37,7 @@ pub fn settle(state: &mut [u8], chosen: Chosen, place: usize, head: Head)
 }
 
 // The visit goes on or ends, by what still waits.
-fn visit_settled(state: &mut [u8], chosen: Chosen, place: usize, head: Head)
+fn visit_settled(state: &mut Base, chosen: Chosen, place: usize, head: Head)
     requires { Settling state.old chosen.slot head chosen.scan × (place ≡ first_at state.old chosen.slot) }
     ensures { (z : Settling state.old chosen.slot head chosen.scan)
         → state.new ≡ bytes_of (unordered z.channel.waiting z.state chosen.slot z.channel) }
@@ -49,7 +50,7 @@ fn visit_settled(state: &mut [u8], chosen: Chosen, place: usize, head: Head)
 }
 
 // "If no record is left, the row leaves, its deficit is 0, the visit ends, a closing slot is freed".
-fn row_left(state: &mut [u8], chosen: Chosen, head: Head)
+fn row_left(state: &mut Base, chosen: Chosen, head: Head)
     requires { (z : Settling state.old chosen.slot head chosen.scan) × (z.channel.waiting ≡ []) }
     ensures { (z : Settling state.old chosen.slot head chosen.scan) → z.channel.waiting ≡ [] → state.new ≡ bytes_of (rowless z.state chosen.slot z.channel) }
 {
@@ -59,8 +60,8 @@ fn row_left(state: &mut [u8], chosen: Chosen, head: Head)
 }
 
 // The row leaves, and its channel is emptied.
-fn row_gone(state: &mut [u8], slot: usize, head: Head)
-    requires { (length state.old ≡ base_length) × (slot < slots) × (row_count_at state.old ≤ slots) × (1 ≤ occurs slot (rows_at state.old)) }
+fn row_gone(state: &mut Base, slot: usize, head: Head)
+    requires { (slot < slots) × (row_count_at state.old ≤ slots) × (1 ≤ occurs slot (rows_at state.old)) }
     ensures { (s : State) (c : Channel) → Fits s → state.old ≡ bytes_of s → occurs slot s.scan.to_visit ≡ 0 → head ≡ head_of c → (at s.channels slot).waiting ≡ []
         → state.new ≡ bytes_of (with_channel (row_gone s slot) slot (rules.emptied c.kind c)) }
 {
@@ -86,7 +87,7 @@ fn emptied(head: Head) -> Head
 }
 
 // "Otherwise the visit stays open exactly if the new head's length is at most the deficit." (By 02 §1 its cost.) The new head has moved down to the old one's place.
-fn row_stays(state: &mut [u8], chosen: Chosen, place: usize, head: Head)
+fn row_stays(state: &mut Base, chosen: Chosen, place: usize, head: Head)
     requires { (z : Settling state.old chosen.slot head chosen.scan) × (0 < length z.channel.waiting) × (place ≡ first_at state.old chosen.slot) }
     ensures { (z : Settling state.old chosen.slot head chosen.scan) (h : Record) (rest : List Record) → z.channel.waiting ≡ h ∷ rest
         → state.new ≡ bytes_of (rules.row_stays z.state chosen.slot h z.channel) }

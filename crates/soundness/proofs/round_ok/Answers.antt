@@ -11,7 +11,7 @@ unfolding round_rule
 returns-then-not-order_ok c = rw (sym c.order_ok.ensures ∙ c.if-not-order_ok.true)
 
 pub round_over-over-requires : goal.round_over-over-requires
-round_over-over-requires c = (search rules, order_small _ (sym c.order_ok.ensures ∙ c.if-not-order_ok.false))
+round_over-over-requires c = order_small _ (sym c.order_ok.ensures ∙ c.if-not-order_ok.false)
 
 pub returns : goal.returns
 unfolding round_rule

@@ -10,10 +10,6 @@ use Rattle.memory.specs.declared.heads.Head.{Head}
 use Rattle.memory.proofs.HeadEdits.{channel-stored}
 use Rattle.memory.proofs.heads.store_head.Goals as goal
 
-pub shape_of-state : goal.shape_of-state
-shape_of-state c =
-    simp length-set (omega (arith, c.write.auto.b, c.write-2.auto.b, c.write-3.auto.b, c.write-4.auto.b))
-
 pub returns : goal.returns
 returns c =
     let h = c.args.head in
@@ -35,5 +31,5 @@ returns c =
       few = rw records (F.slot c.args.slot).few;
       records = rw records (F.slot c.args.slot).records;
     } in
-    channel-stored c.args.slot x F memory c.requires.1 fits records
+    channel-stored c.args.slot x F memory c.requires fits records
     (rw same at c.write.ensures) (rw same at c.write-2.ensures) (rw same at c.write-3.ensures) (rw same at c.write-4.ensures) (rw same refl)

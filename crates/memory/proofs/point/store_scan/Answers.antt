@@ -10,16 +10,7 @@ use Rattle.memory.specs.declared.point.Scan.{Scan}
 use Rattle.memory.proofs.point.store_scan.Goals as goal
 
 -- src/point.rt:45:5
-pub bounds-state-845 : goal.bounds-state-845
-bounds-state-845 c = omega (arith, c.write-2.auto.b, simp length-set at c.write-2.auto.b, c.write.auto.b)
-
 -- src/point.rt:36:1
-pub shape_of-state : goal.shape_of-state
-shape_of-state c =
-    let late = simp length-set at c.write-2.auto.b in
-    let soon = c.write.auto.b in
-    simp length-set (omega arith)
-
 -- src/point.rt:36:1
 pub returns : goal.returns
 unfolding scan_put

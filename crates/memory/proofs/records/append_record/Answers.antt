@@ -5,12 +5,9 @@ use lib.ListN.{length-set}
 use Rattle.memory.proofs.AppendLaws.{bytes_appended}
 use Rattle.memory.proofs.records.append_record.Goals as goal
 
-pub shape_of-state : goal.shape_of-state
-shape_of-state c = simp length-set (c.write-2.auto.b ∙ c.write.auto.b)
-
 pub returns : goal.returns
 returns c =
     let a = c.args in
     λ s F e ends.
-    bytes_appended a.slot a.place a.length a.reference F e c.requires.1 c.requires.2 c.requires.3 (omega arith) (omega arith) ends
+    bytes_appended a.slot a.place a.length a.reference F e c.requires.0 c.requires.1 c.requires.2 (omega arith) (omega arith) ends
     c.write.ensures c.write-2.ensures

@@ -16,7 +16,7 @@ pub loop-s-preserved : goal.loop-s-preserved
 loop-s-preserved c =
     let l = c.loop-s in
     let b = c.args.state.now in
-    let waiting : c.from-sum.result < 256 = omega (arith, c.from-sum.ensures, c.type_inv.state (place the.waiting + l.s)) in
+    let waiting : c.from-sum.result < 256 = omega (arith, c.from-sum.ensures, c.fits-state (place the.waiting + l.s)) in
     (omega (arith, l.invariant.0, waiting), omega (arith, l.invariant.1, c.from-sum.ensures, first_next b l.s))
 
 pub returns : goal.returns

@@ -5,9 +5,6 @@ use lib.ListN.{length-set}
 use Rattle.memory.proofs.RowEdits.{bytes-gone}
 use Rattle.memory.proofs.rows.leave_row.Goals as goal
 
-pub bounds-state-832 : goal.bounds-state-832
-bounds-state-832 c = simp length-set (search rules)
-
 pub returns : goal.returns
 returns c =
     let count = c.row_count-count in

@@ -1,16 +1,11 @@
 -- The row gone and the visit ended, order and P are as they were.
 use mathlib.Core.Path.{refl, sym, ◌∙◌}
 use Rattle.visits.specs.Settle.{rowless}
-use Rattle.visits.proofs.SettledState.{memory-length, gone, gone-fits, leaves}
+use Rattle.visits.proofs.SettledState.{gone, gone-fits, leaves}
 use Rattle.visits.proofs.settle.row_left.Goals as goal
 
 pub row_gone-requires : goal.row_gone-requires
 row_gone-requires c = leaves c.requires.0
-
-pub store_scan-requires : goal.store_scan-requires
-store_scan-requires c =
-    let z = c.requires.0 in
-    c.row_gone.auto.state ∙ memory-length z.fits z.memory
 
 pub returns : goal.returns
 returns c =

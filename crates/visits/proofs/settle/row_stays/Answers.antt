@@ -11,23 +11,18 @@ use Rattle.memory.specs.declared.records.Cell.{Cell}
 use Rattle.memory.specs.Records.{cell_of}
 use Rattle.memory.proofs.RunLaws.{no_record}
 use Rattle.memory.proofs.Fitting.{fits-channel, fewer}
-use Rattle.visits.proofs.SettledState.{oldest-within, oldest-is, memory-length, stays-point}
+use Rattle.visits.proofs.SettledState.{oldest-within, oldest-is, stays-point}
 use Rattle.visits.proofs.settle.row_stays.Goals as goal
 
 pub load_record-next-requires : goal.load_record-next-requires
 load_record-next-requires c =
     let (z, waits, here) = c.requires in
-    (memory-length z.fits z.memory, rw here (oldest-within z.fits z.memory _ z.slot_lt (rw z.left at waits)))
+    rw here (oldest-within z.fits z.memory _ z.slot_lt (rw z.left at waits))
 
 pub store_head-requires : goal.store_head-requires
 store_head-requires c =
     let (z, waits, here) = c.requires in
-    (memory-length z.fits z.memory, z.slot_lt)
-
-pub store_scan-requires : goal.store_scan-requires
-store_scan-requires c =
-    let (z, waits, here) = c.requires in
-    c.store_head.auto.state ∙ memory-length z.fits z.memory
+    z.slot_lt
 
 pub returns : goal.returns
 returns c =

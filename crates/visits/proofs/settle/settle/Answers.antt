@@ -3,18 +3,8 @@
 use mathlib.Core.Path.{ap, ◌∙◌}
 use Rattle.memory.specs.Layout.{bytes_of}
 use Rattle.visits.specs.Settle.{pointed}
-use Rattle.visits.proofs.SettledState.{memory-length, takes, first_taken, paid, pointed-stored, taken-unordered}
+use Rattle.visits.proofs.SettledState.{takes, first_taken, paid, pointed-stored, taken-unordered}
 use Rattle.visits.proofs.settle.settle.Goals as goal
-
-pub store_order-requires : goal.store_order-requires
-store_order-requires c =
-    let z = c.requires.0 in
-    memory-length z.fits z.memory
-
-pub store_scan-requires : goal.store_scan-requires
-store_scan-requires c =
-    let z = c.requires.0 in
-    c.store_order.auto.state ∙ memory-length z.fits z.memory
 
 pub take_record-requires : goal.take_record-requires
 take_record-requires c =

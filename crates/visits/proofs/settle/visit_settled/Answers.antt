@@ -7,13 +7,13 @@ use lib.ListN.{length}
 use Rattle.rules.specs.State.{Record}
 use Rattle.memory.specs.Layout.{bytes_of}
 use Rattle.visits.specs.Settle.{unordered}
-use Rattle.visits.proofs.SettledState.{memory-length, settling_waiting, length_none, length_some}
+use Rattle.visits.proofs.SettledState.{settling_waiting, length_none, length_some}
 use Rattle.visits.proofs.settle.visit_settled.Goals as goal
 
 pub waiting_of-requires : goal.waiting_of-requires
 waiting_of-requires c =
     let z = c.requires.0 in
-    (memory-length z.fits z.memory, z.slot_lt)
+    z.slot_lt
 
 pub row_left-requires : goal.row_left-requires
 row_left-requires c =
