@@ -14,6 +14,7 @@ ghost use Rattle.plain.specs.Places.{Begins, Finds, Starts};
 use super::list::{Marks, first_marked, marks_of, mask_of};
 use super::matrix::{Matrix, filled};
 use super::scan::{Place, column_found};
+use memory::layout::Base;
 use memory::point::{Scan, load_order};
 use memory::rows::row_count;
 use memory::search::row_at;
@@ -21,7 +22,7 @@ use terms::table::copied;
 use visits::choose::{Chosen, open_visit};
 
 // "If a visit is open, its slot is chosen. Else, if slots remain to visit, the first of them in row order starts a visit." Else terms are taken until there is one.
-pub fn choose(state: &[u8], scan: Scan) -> Chosen
+pub fn choose(state: &Base, scan: Scan) -> Chosen
     requires { Chooses state.now scan }
     ensures { some result ≡ map in_chosen (chosen_of (state_of state.now)) }
 {
@@ -42,7 +43,7 @@ pub fn choose(state: &[u8], scan: Scan) -> Chosen
 }
 
 // The matrix is filled and the table copied, once each, and terms are taken until a column has a row.
-fn by_terms(state: &[u8], start: Place) -> Chosen
+fn by_terms(state: &Base, start: Place) -> Chosen
     requires { Begins state.now start }
     ensures { some result ≡ map in_chosen (chosen_of (state_of state.now)) }
 {
@@ -53,7 +54,7 @@ fn by_terms(state: &[u8], start: Place) -> Chosen
 }
 
 // "All rows of the column found become the slots to visit, and the first starts its visit."
-fn column_visited(state: &[u8], matrix: &Matrix, found: Place) -> Chosen
+fn column_visited(state: &Base, matrix: &Matrix, found: Place) -> Chosen
     requires { RowsWithin state.now × MatrixOf state.now matrix.now × Finds state.now found }
     ensures { some result ≡ map in_chosen (chosen_of (state_of state.now)) }
 {
@@ -63,7 +64,7 @@ fn column_visited(state: &[u8], matrix: &Matrix, found: Place) -> Chosen
 }
 
 // The first row of the list starts its visit. "Starting a visit takes the slot off that list".
-fn first_visit(state: &[u8], list: &mut Marks, row: usize, place: Place) -> Chosen
+fn first_visit(state: &Base, list: &mut Marks, row: usize, place: Place) -> Chosen
     requires { RowsWithin state.now × (Some row ≡ first_mark list.old (row_count_at state.now)) }
     ensures { Starts place (marks_in list.old (state_of state.now).rows) result }
 {
@@ -87,7 +88,7 @@ fn first_visit(state: &[u8], list: &mut Marks, row: usize, place: Place) -> Chos
 }
 
 // "When the list is empty the noted column is 0."
-fn noted(state: &[u8], list: &Marks, column: u8) -> u8
+fn noted(state: &Base, list: &Marks, column: u8) -> u8
     requires { RowsWithin state.now }
     ensures { result ≡ rules.noted (marks_in list.now (state_of state.now).rows) column }
 {

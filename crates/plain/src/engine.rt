@@ -3,6 +3,7 @@ ghost use Rattle.std.specs.Prelude.{◌≡◌};
 
 use super::choose::choose;
 use super::matrix::order_of_rows;
+use memory::layout::Base;
 use memory::point::{Scan, load_order, store_order};
 use uplink::engine::Engine;
 use visits::choose::Chosen;
@@ -11,16 +12,16 @@ use visits::choose::Chosen;
 pub struct ByHand;
 
 impl Engine for ByHand {
-    fn choose(state: &[u8], scan: Scan) -> Chosen {
+    fn choose(state: &Base, scan: Scan) -> Chosen {
         choose(state, scan)
     }
 
-    fn order_of_rows(state: &[u8]) -> u32 {
+    fn order_of_rows(state: &Base) -> u32 {
         order_of_rows(state)
     }
 
     // To that of the rows, the one that has joined among them.
-    fn rise(state: &mut [u8], _slot: usize) {
+    fn rise(state: &mut Base, _slot: usize) {
         let order = load_order(state).max(order_of_rows(state) as u8);
         store_order(state, order);
     }

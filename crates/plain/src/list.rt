@@ -10,6 +10,7 @@ ghost use Rattle.plain.specs.Marks.{marks_in, first_mark};
 
 use super::matrix::bit_at;
 use bits::with_slot;
+use memory::layout::Base;
 use memory::rows::row_count;
 use memory::search::row_at;
 use rules::SLOTS;
@@ -18,7 +19,7 @@ use rules::SLOTS;
 pub type Marks = [u8; SLOTS];
 
 // The list as the memory has it: a row's mark is the bit of its slot.
-pub fn marks_of(state: &[u8], mask: u64) -> Marks
+pub fn marks_of(state: &Base, mask: u64) -> Marks
     requires { RowsWithin state.now }
     ensures { marks_in result (state_of state.now).rows ≡ in_mask mask (state_of state.now).rows }
 {
@@ -31,7 +32,7 @@ pub fn marks_of(state: &[u8], mask: u64) -> Marks
 }
 
 // The list as the memory keeps it: the slots of the rows that have a mark.
-pub fn mask_of(state: &[u8], list: &Marks) -> u64
+pub fn mask_of(state: &Base, list: &Marks) -> u64
     requires { RowsWithin state.now }
     ensures { result ≡ mask_of (marks_in list.now (state_of state.now).rows) }
 {

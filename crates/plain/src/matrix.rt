@@ -10,6 +10,7 @@ ghost use Rattle.memory.specs.Reading.{state_of};
 ghost use Rattle.memory.specs.Search.{RowsWithin};
 ghost use Rattle.plain.specs.Matrix.{cell, MatrixOf, Top};
 
+use memory::layout::Base;
 use memory::rows::row_count;
 use memory::search::weight_of_row;
 use rules::SLOTS;
@@ -19,7 +20,7 @@ use spread::COLUMNS;
 pub type Matrix = [[u8; SLOTS]; COLUMNS as usize];
 
 // Each row's weight is written into its row of the matrix, in joining order.
-pub fn filled(state: &[u8]) -> Matrix
+pub fn filled(state: &Base) -> Matrix
     requires { RowsWithin state.now }
     ensures { MatrixOf state.now result }
 {
@@ -73,7 +74,7 @@ pub fn order_in(matrix: &Matrix, count: usize) -> u32
 }
 
 // The order of the rows of a memory, by a matrix of its own. The columns cannot show a higher order than theirs, so none may be there.
-pub fn order_of_rows(state: &[u8]) -> u32
+pub fn order_of_rows(state: &Base) -> u32
     requires { RowsWithin state.now × (order_of (weights (state_of state.now).channels) (state_of state.now).rows ≤ columns) }
     ensures { result ≡ order_of (weights (state_of state.now).channels) (state_of state.now).rows }
 {

@@ -9,7 +9,7 @@ ghost use Rattle.plain.specs.Matrix.{MatrixOf};
 ghost use Rattle.plain.specs.Places.{InRound, Ends, Begins, Finds, next_term, next_round};
 
 use super::matrix::{Matrix, has_row, order_in};
-use memory::layout::Position;
+use memory::layout::{Base, Position};
 use memory::point::{holds, turns};
 use memory::rows::row_count;
 use terms::term_in;
@@ -24,7 +24,7 @@ pub struct Place {
 }
 
 // "If that column is empty, one more term is taken", in edition 2 so on, "through a round's end if need be, until it finds a row".
-pub fn column_found(state: &[u8], matrix: &Matrix, table: &[u8; 4095], start: Place) -> Place
+pub fn column_found(state: &Base, matrix: &Matrix, table: &[u8; 4095], start: Place) -> Place
     requires { Begins state.now start × MatrixOf state.now matrix.now × (table.now ≡ spread table_order) }
     ensures { Finds state.now result }
 {
@@ -67,7 +67,7 @@ fn next_position(order: u32, position: Position) -> Position
 
 // "a round's end (term 2^k - 1 taken, no visit open, none left to visit); then the order is worked out afresh and P is 0", where the order is held. (The column
 // at `place` is empty.)
-fn round_ended(state: &[u8], matrix: &Matrix, place: Place) -> Place
+fn round_ended(state: &Base, matrix: &Matrix, place: Place) -> Place
     requires { Ends state.now place × MatrixOf state.now matrix.now }
     ensures { result ≡ next_round (state_of state.now) place }
 {

@@ -10,7 +10,7 @@ ghost use Rattle.uplink.specs.PutSteps.{risen, Joined};
 
 use bits::order_of;
 use memory::heads::load_weight;
-use memory::layout::Weight;
+use memory::layout::{Base, Weight};
 use memory::point::{Scan, load_order, store_order};
 use memory::search::order_of_rows;
 use visits::choose::{Chosen, choose};
@@ -18,17 +18,17 @@ use visits::choose::{Chosen, choose};
 // A way to work them out. The contracts leave room for no second choice and no second order, so the engines differ in nothing but the way.
 pub trait Engine {
     // The slot that sends next.
-    fn choose(state: &[u8], scan: Scan) -> Chosen
+    fn choose(state: &Base, scan: Scan) -> Chosen
         requires { Chooses state.now scan }
         ensures { some result ≡ map in_chosen (chosen_of (state_of state.now)) };
 
     // The order of the rows, of a memory whose order is still to be worked out.
-    fn order_of_rows(state: &[u8]) -> u32
+    fn order_of_rows(state: &Base) -> u32
         requires { Unordered state.now }
         ensures { result ≡ order_of_rows (state_of state.now) };
 
     // "The order may rise": to that of the rows, which the slot has joined.
-    fn rise(state: &mut [u8], slot: usize)
+    fn rise(state: &mut Base, slot: usize)
         requires { Joined state.old slot }
         ensures { state.new ≡ bytes_of (risen (state_of state.old)) };
 }
@@ -37,16 +37,16 @@ pub trait Engine {
 pub struct Jumping;
 
 impl Engine for Jumping {
-    fn choose(state: &[u8], scan: Scan) -> Chosen {
+    fn choose(state: &Base, scan: Scan) -> Chosen {
         choose(state, scan)
     }
 
-    fn order_of_rows(state: &[u8]) -> u32 {
+    fn order_of_rows(state: &Base) -> u32 {
         order_of_rows(state)
     }
 
     // To the bits of the weight that joined, for the other rows are within the order.
-    fn rise(state: &mut [u8], slot: usize) {
+    fn rise(state: &mut Base, slot: usize) {
         let order = larger(load_order(state), load_weight(state, slot));
         store_order(state, order);
     }

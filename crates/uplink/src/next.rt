@@ -18,7 +18,7 @@ use super::engine::{Engine, Jumping};
 use answers::Refusal;
 use fullest::noting::shrink;
 use memory::heads::{Head, load_head, waiting_of};
-use memory::layout::BASE;
+use memory::layout::Base;
 use memory::point::load_scan;
 use memory::records::{first_of, load_record};
 use memory::rows::row_count;
@@ -47,7 +47,7 @@ fn next_noted<E: Engine>(state: &mut [u8]) -> Result<Sent, Refusal>
     requires { TakesCalls state.old }
     ensures { leaving (next_told result) state.new ≡ replied state.old (next_call (state_of state.old)) }
 {
-    let sent = next_in::<E>(&mut state[..BASE])?;
+    let sent = next_in::<E>(state.first_chunk_mut().unwrap())?;
     note_sent(state, sent);
     Ok(sent)
 }
@@ -61,7 +61,7 @@ pub fn note_sent(state: &mut [u8], sent: Sent)
 }
 
 // Next on the base of a memory that takes calls.
-fn next_in<E: Engine>(state: &mut [u8]) -> Result<Sent, Refusal>
+fn next_in<E: Engine>(state: &mut Base) -> Result<Sent, Refusal>
     requires { TakesSteps state.old }
     ensures { leaving (next_told result) state.new ≡ replied_base state.old (next_call (state_of state.old)) }
 {
@@ -76,7 +76,7 @@ fn next_in<E: Engine>(state: &mut [u8]) -> Result<Sent, Refusal>
 }
 
 // The record of a slot has left, and the order is not worked out yet: it falls where a row left with the record, and is worked out afresh where a round is over.
-fn order_again<E: Engine>(state: &mut [u8], slot: usize)
+fn order_again<E: Engine>(state: &mut Base, slot: usize)
     requires { Unordered state.old × (slot < slots) }
     ensures { state.new ≡ bytes_of (ordered slot (state_of state.old)) }
 {
@@ -88,7 +88,7 @@ fn order_again<E: Engine>(state: &mut [u8], slot: usize)
 
 // "The head record is sent and its length taken from the deficit": its cost, by 02 §1. Its place is worked out once: no step of a send moves it. The order is
 // then still to be worked out.
-pub fn send(state: &mut [u8], chosen: Chosen) -> Sent
+pub fn send(state: &mut Base, chosen: Chosen) -> Sent
     requires { Chose state.old chosen × ((state_of state.old).parked ≡ false) }
     ensures { Sends state.old chosen result state.new }
 {
@@ -112,8 +112,8 @@ pub fn send(state: &mut [u8], chosen: Chosen) -> Sent
 }
 
 // Serials go up by one, so the head record's is the next one less the number waiting.
-fn head_serial(state: &[u8], slot: usize, serial: u16) -> u16
-    requires { (length state.now ≡ base_length) × (slot < slots) }
+fn head_serial(state: &Base, slot: usize, serial: u16) -> u16
+    requires { slot < slots }
     ensures { result ≡ (serial + serials - waiting_at state.now slot) % serials }
 {
     let waiting = waiting_of(state, slot);

@@ -1,13 +1,12 @@
 -- What the lookup finds is refused as the rules refuse it, or is the channel whose head is stored anew.
 use Rattle.std.proofs.lemmas.Result.{err_from_is_err_and}
-use Rattle.std.proofs.Common.{◌≡◌, length, sym, refl, ◌∙◌, leb-false}
+use Rattle.std.proofs.Common.{sym, refl, ◌∙◌, leb-false}
 use Rattle.rules.specs.Numbers.{slots}
 use Rattle.rules.specs.State.{at}
 use Rattle.rules.specs.Reply.{freed}
 use Rattle.rules.specs.Calls.{draining}
-use Rattle.memory.specs.Layout.{base_length}
 use Rattle.memory.specs.Reading.{state_of}
-use Rattle.uplink.proofs.Lending.{sound-holds, holds-size}
+use Rattle.uplink.proofs.Lending.{sound-holds}
 use Rattle.uplink.proofs.Closing.{freed-head, draining-head, none-held, close_unnamed, close_again, close_freed, close_drained}
 use Rattle.uplink.proofs.close.close_in.Goals as goal
 
@@ -26,14 +25,12 @@ returns-then-head-eq2 c =
 pub waiting_of-requires : goal.waiting_of-requires
 waiting_of-requires c =
     let channel = c.in_ok-head.ensures in
-    let size : length c.args.state.now ≡ base_length = holds-size (sound-holds _ c.requires.0) in
-    (size, leb-false slots _ channel.0)
+    leb-false slots _ channel.0
 
 pub store_head-requires : goal.store_head-requires
 store_head-requires c =
     let channel = c.in_ok-head.ensures in
-    let size : length c.args.state.now ≡ base_length = holds-size (sound-holds _ c.requires.0) in
-    (size, leb-false slots _ channel.0)
+    leb-false slots _ channel.0
 
 pub returns-then-waiting_of-eq0 : goal.returns-then-waiting_of-eq0
 returns-then-waiting_of-eq0 c =
@@ -51,8 +48,7 @@ returns-then-waiting_of-eq0 c =
 pub store_head-requires-2 : goal.store_head-requires-2
 store_head-requires-2 c =
     let channel = c.in_ok-head.ensures in
-    let size : length c.args.state.now ≡ base_length = holds-size (sound-holds _ c.requires.0) in
-    (size, leb-false slots _ channel.0)
+    leb-false slots _ channel.0
 
 pub returns : goal.returns
 returns c =

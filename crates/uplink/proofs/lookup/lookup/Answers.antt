@@ -5,12 +5,12 @@ use Rattle.rules.specs.Numbers.{slots}
 use Rattle.rules.specs.State.{at}
 use Rattle.memory.specs.Reading.{state_of}
 use Rattle.uplink.specs.Found.{HeadIn}
-use Rattle.uplink.proofs.Lending.{sound-holds, holds-size}
+use Rattle.uplink.proofs.Lending.{sound-holds}
 use Rattle.uplink.proofs.Named.{kind-is, ticket_is, head-held, absent-free, absent-other, absent-not}
 use Rattle.uplink.proofs.lookup.lookup.Goals as goal
 
 pub load_head-head-requires : goal.load_head-head-requires
-load_head-head-requires c = (holds-size (sound-holds _ c.requires), omega arith)
+load_head-head-requires c = omega arith
 
 pub returns-then-head-eq0 : goal.returns-then-head-eq0
 returns-then-head-eq0 c =

@@ -3,20 +3,20 @@ use Rattle.std.proofs.Common.{refl, ap, ◌∙◌, arith}
 use Rattle.memory.specs.declared.heads.Head.{Head}
 use Rattle.memory.specs.declared.records.Cell.{Cell}
 use Rattle.memory.specs.Records.{cell_of}
-use Rattle.uplink.proofs.SentState.{slot_lt, within-memory, oldest-there, first-is, costs_first, loaded, payable, settles, unordered-here, ordered-here, serial-is, sent}
+use Rattle.uplink.proofs.SentState.{slot_lt, oldest-there, first-is, costs_first, loaded, payable, settles, unordered-here, ordered-here, serial-is, sent}
 use Rattle.uplink.proofs.next.send.Goals as goal
 
 pub load_head-head-requires : goal.load_head-head-requires
-load_head-head-requires c = within-memory c.requires.0
+load_head-head-requires c = slot_lt c.requires.0
 
 pub first_of-place-requires : goal.first_of-place-requires
-first_of-place-requires c = let (size, low) = within-memory c.requires.0 in (size, omega arith)
+first_of-place-requires c = omega (arith, slot_lt c.requires.0)
 
 pub load_record-first-requires : goal.load_record-first-requires
-load_record-first-requires c = oldest-there c.requires.0 c.first_of-place.ensures
+load_record-first-requires c = (oldest-there c.requires.0 c.first_of-place.ensures).1
 
 pub head_serial-serial-requires : goal.head_serial-serial-requires
-head_serial-serial-requires c = within-memory c.requires.0
+head_serial-serial-requires c = slot_lt c.requires.0
 
 pub paying-paid-requires : goal.paying-paid-requires
 paying-paid-requires c =

@@ -7,7 +7,7 @@ use Rattle.memory.specs.declared.heads.Head.{Head}
 use Rattle.memory.specs.Reading.{state_of}
 use Rattle.memory.proofs.SearchLaws.{found_slot, found_none}
 use Rattle.uplink.specs.Found.{HeadIn}
-use Rattle.uplink.proofs.Lending.{sound_of, sound-holds, holds-size}
+use Rattle.uplink.proofs.Lending.{sound_of, sound-holds}
 use Rattle.uplink.proofs.Named.{ticket_is, head-held}
 use Rattle.uplink.proofs.Opening.{opened-empty, opened-ticket, open_bad-weight, open_none-free, open_given}
 use Rattle.uplink.proofs.open.open_in.Goals as goal
@@ -16,9 +16,6 @@ pub returns-then-outside : goal.returns-then-outside
 returns-then-outside c =
     let a = c.args in
     open_bad-weight a.state.now a.weight c.requires.1 (sym c.outside.ensures ∙ c.if-outside.true)
-
-pub lowest_of-requires : goal.lowest_of-requires
-lowest_of-requires c = holds-size (sound-holds _ c.requires.0)
 
 pub returns-in_default : goal.returns-in_default
 returns-in_default c =
@@ -30,7 +27,7 @@ returns-in_default c =
 pub load_head-head-requires : goal.load_head-head-requires
 load_head-head-requires c =
     let found = found_slot (lowest (state_of c.args.state.now).channels) c.in-Some.slot (sym c.in-Some.is ∙ c.lowest_of.ensures) in
-    (holds-size (sound-holds _ c.requires.0), found.1)
+    found.1
 
 pub overflow_add-ticket : goal.overflow_add-ticket
 overflow_add-ticket c =
@@ -44,7 +41,7 @@ overflow_add-ticket c =
 pub store_head-requires : goal.store_head-requires
 store_head-requires c =
     let found = found_slot (lowest (state_of c.args.state.now).channels) c.in-Some.slot (sym c.in-Some.is ∙ c.lowest_of.ensures) in
-    (holds-size (sound-holds _ c.requires.0), found.1)
+    found.1
 
 pub returns : goal.returns
 returns c =

@@ -11,7 +11,7 @@ use Rattle.memory.specs.Fits.{RecordFits, Fits}
 use Rattle.memory.proofs.RowEdits.{fits-joined}
 use Rattle.uplink.specs.PutSteps.{record_taken}
 use Rattle.uplink.proofs.put.put_in.Goals as goal
-use Rattle.uplink.proofs.Lending.{sound_of, sound-holds, holds-size, held-state, holds}
+use Rattle.uplink.proofs.Lending.{sound_of, sound-holds, held-state, holds}
 use Rattle.uplink.proofs.Closing.{none-waits}
 use Rattle.uplink.proofs.Putting.{
   fits-record-taken,
@@ -55,7 +55,7 @@ returns-then-outside c =
 pub waiting_of-waiting-requires : goal.waiting_of-waiting-requires
 waiting_of-waiting-requires c =
     let channel = c.in_ok-head.ensures in
-    (holds-size (sound-holds _ c.requires.0), leb-false slots _ channel.0)
+    leb-false slots _ channel.0
 
 pub returns-then-waiting-ge-ROOM : goal.returns-then-waiting-ge-ROOM
 returns-then-waiting-ge-ROOM c =
@@ -66,9 +66,6 @@ returns-then-waiting-ge-ROOM c =
     (put_full a.state.now a.slot a.ticket a.length a.reference c.requires.1 c.in_ok-head.head channel
     c.if-head-eq2.false (sound-holds _ c.requires.0) good_length c.waiting_of-waiting.result c.waiting_of-waiting.ensures.0
     c.if-waiting-ge-ROOM.true)
-
-pub no_cell-requires : goal.no_cell-requires
-no_cell-requires c = holds-size (sound-holds _ c.requires.0)
 
 pub returns-then-no_cell : goal.returns-then-no_cell
 returns-then-no_cell c =
@@ -117,7 +114,7 @@ join_row-requires c =
     let H = holds c.take.new.state taken-fits c.take.ensures in
     let low = leb-false slots _ channel.0 in
     let none = no_row a.slot (sound_of a.state.now c.requires.0) empty in
-    (holds-size H, low, row-room-held c.take.new.state H a.slot low (rw (held-state c.take.new.state taken-fits c.take.ensures) none))
+    (low, row-room-held c.take.new.state H a.slot low (rw (held-state c.take.new.state taken-fits c.take.ensures) none))
 
 pub returns-then-waiting-eq0 : goal.returns-then-waiting-eq0
 returns-then-waiting-eq0 c =

@@ -7,21 +7,16 @@ use Rattle.memory.specs.Layout.{bytes_of}
 use Rattle.memory.specs.Reading.{state_of}
 use Rattle.memory.specs.Fits.{RecordFits}
 use Rattle.memory.proofs.RecordEdits.{fits-added}
-use Rattle.uplink.proofs.Lending.{holds-size}
 use Rattle.uplink.proofs.Putting.{taken_queue, taken-state, taken-head, room-held}
 use Rattle.uplink.proofs.put.take.Goals as goal
 
 pub add_record-requires : goal.add_record-requires
 add_record-requires c =
     let room = room-held c.args.state.now c.requires.0 c.args.slot c.requires.1 c.requires.2 c.requires.3 in
-    (holds-size c.requires.0, c.requires.1, room.0, room.1)
+    (c.requires.1, room.0, room.1)
 
 pub store_head-requires : goal.store_head-requires
-store_head-requires c =
-    let s = c in (
-      c.add_record.auto.state ∙ holds-size s.requires.0,
-      s.requires.1,
-    )
+store_head-requires c = c.requires.1
 
 pub returns : goal.returns
 returns c =
