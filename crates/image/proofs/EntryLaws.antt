@@ -24,9 +24,11 @@ use Rattle.memory.proofs.SoundBytes.{base-only}
 use Rattle.memory.proofs.SoundFits.{sound-fits}
 use Rattle.memory.proofs.Fitting.{run-few}
 use Rattle.memory.proofs.OneMemory.{base-sound}
-use Rattle.image.specs.Parts.{part, laid}
+use Rattle.std.specs.Int.{bytes_high_first}
+use Rattle.image.specs.Parts.{high_first, part, laid}
 use Rattle.image.specs.declared.parts.Part.{Part}
 use Rattle.image.specs.Image.{wide, length_width, record_bytes, record_parts, records_bytes, slot_parts, fixed, entry, entries}
+use Rattle.image.proofs.LaidLaws.{same-bytes}
 use Rattle.image.proofs.RoundTrip.{length-records}
 use Rattle.image.proofs.Lengths.{length-entries}
 
@@ -38,14 +40,20 @@ records_append [] qs = refl
 records_append (r ∷ rs) qs =
     ap (λ (l : List ℕ). laid (record_parts r) ++ l) (records_append rs qs) ∙ sym (append_assoc (laid (record_parts r)) (records_bytes rs) (records_bytes qs))
 
+record-is : (r : Record) → bytes_high_first 2 r.length ++ bytes_high_first 4 r.reference ≡ laid (record_parts r)
+unfolding laid
+record-is r =
+    ap (λ (l : List ℕ). l ++ bytes_high_first 4 r.reference) (same-bytes 2 r.length)
+    ∙ ap (λ (l : List ℕ). high_first 2 r.length ++ l) (same-bytes 4 r.reference ∙ sym (append-nil (high_first 4 r.reference)))
+
 module _ (f : ℕ → Record) where
   pub length-records_to : (i : ℕ) → length (records_bytes (tab i f)) ≡ record_bytes * i
   length-records_to i = length-records (tab i f) ∙ ap (λ (n : ℕ). record_bytes * n) (length-tab i f)
 
-  pub records-turn : (i : ℕ) → records_bytes (tab i f) ++ laid (record_parts (f i)) ≡ records_bytes (tab (i + 1) f)
+  pub records-turn : (i : ℕ) → records_bytes (tab i f) ++ (bytes_high_first 2 (f i).length ++ bytes_high_first 4 (f i).reference) ≡ records_bytes (tab (i + 1) f)
   unfolding records_bytes
   records-turn i =
-      ap (λ (l : List ℕ). records_bytes (tab i f) ++ l) (sym (append-nil (laid (record_parts (f i)))))
+      ap (λ (l : List ℕ). records_bytes (tab i f) ++ l) (record-is (f i) ∙ sym (append-nil (laid (record_parts (f i)))))
       ∙ sym (records_append (tab i f) (f i ∷ []))
       ∙ ap records_bytes (sym (ap (λ (k : ℕ). tab k f) (add-one i) ∙ tab-last i f))
 

@@ -14,7 +14,7 @@ use Rattle.image.proofs.PartLaws.{length-high_first, no_part}
 
 -- ---- a number
 
-same-bytes : (k n : ℕ) → bytes_high_first k n ≡ high_first k n
+pub same-bytes : (k n : ℕ) → bytes_high_first k n ≡ high_first k n
 unfolding high_first
 same-bytes zero n = refl
 same-bytes (suc zero) n = let e : n / 1 % 256 ≡ n % 256 = omega arith in rw e refl

@@ -1,7 +1,7 @@
 // The parked image of a state (document 02, §6): what it is, and its writer.
 //
-// An image is parts side by side: a number each, in so many bytes. A version is a choice of widths, so one loop writes the parts of a head, of a slot's
-// entry and of a record in every version. specs/ says what an image is, and which state any bytes stand for; proofs/ shows that reading what was written
+// An image is parts side by side: a number each, in so many bytes. A version is a choice of widths, so one loop writes the parts of a head and of a
+// slot's entry in every version. specs/ says what an image is, and which state any bytes stand for; proofs/ shows that reading what was written
 // gives the same state, and that each sound state has one image. It is of the memory's base alone.
 #![tactic(auto)]
 

@@ -35,8 +35,8 @@ fn put_records(w: &mut Writer<'_>, state: &Base, place: usize, count: usize)
 {
     for i in 0..count {
         let cell = load_record(state, place + i);
-        let parts = [Part::new(2, cell.length), Part::new(4, cell.reference)];
-        put_parts(w, &parts);
+        w.bytes(&cell.length.to_be_bytes());
+        w.bytes(&cell.reference.to_be_bytes());
     }
 }
 
@@ -108,6 +108,16 @@ fn put_head(w: &mut Writer<'_>, state: &Base, version: Version, size: usize)
     put_parts(w, &parts);
 }
 
+// The rows. (Byte by byte: the writer's `bytes` of lent bytes calls memmove, and the archive may need only memcpy and memset.)
+fn put_rows(w: &mut Writer<'_>, rows: &[u8])
+    requires { w.old.at + length rows.now ≤ length w.old.out.now }
+    ensures { Wrote w.old rows.now w.new }
+{
+    for row in rows {
+        w.byte(*row);
+    }
+}
+
 // The length of a memory's image.
 pub fn length_of(state: &Base, version: Version) -> usize
     requires { sound_base state.now ≡ true }
@@ -127,12 +137,13 @@ pub fn put_image(buffer: &mut [u8], state: &Base, version: Version, size: usize)
     let mut w = Writer { out: buffer, at: 0 };
     put_head(&mut w, state, version, size);
     let count = row_count(state);
-    w.bytes(&state[ROWS..ROWS + count]);
+    put_rows(&mut w, &state[ROWS..ROWS + count]);
     put_slots(&mut w, state, version);
     w.at
 }
 
 // The writer of a version: 10, 14, then 16; else the image stands in the buffer from its first byte on, the bytes behind it stay, and the state is parked.
+// (The two checks stand here too: uplink's function for them is in a crate above this one.)
 pub fn park_version(state: &mut [u8], image: &mut [u8], version: Version) -> Result<u32, Refusal>
     ensures { parking (park_told result) state.new image.new ≡ park_on version.number state.old image.old }
 {

@@ -5,11 +5,11 @@
 // of the stack. A read that fails counts as the end of the input, and a write that fails ends the program.
 #![tactic(auto)]
 
-use text::program::{room, run};
+use text::program::{MOST, room, run};
 
 fn main() {
     // One byte more than is answered.
-    let mut input = [0u8; 65537];
+    let mut input = [0u8; MOST + 1];
     let n = io::read_full(0, &mut input);
     let mut out = room();
     let length = run(&input, n, &mut out);

@@ -6,45 +6,40 @@
 // read that fails counts as the end of the input, and a write that fails ends the program.
 #![tactic(auto)]
 
-ghost use Rattle.std.specs.Prelude.{◌≤◌, length};
+ghost use Rattle.std.specs.Prelude.{◌≤◌, length, IfSome};
 ghost use Rattle.text.specs.Lines.{line_after};
 
 use memory::layout::LENGTH;
 use page::under;
 use rules::FALLING;
 use text::answer::answer_line;
+use text::program::MOST;
 use uplink::open::start;
-
-// "Input above 65,536 bytes prints only `? input`."
-const MOST: usize = 65536;
 
 // Room for any line of an answer.
 const WIDEST: usize = 80;
 
-// The line at a place of the text is answered and written, and its page under it. Answers the place after the line, or the end of the text where a write fails.
-fn print_line(state: &mut [u8], text: &[u8], at: usize) -> usize
+// The line at a place of the text is answered and written, and its page under it. Answers the place after the line, and none where a write fails.
+fn print_line(state: &mut [u8], text: &[u8], at: usize) -> Option<usize>
     requires { at ≤ length text.now }
-    ensures { (line_after text.now at ≤ result) × (result ≤ length text.now) }
+    ensures { IfSome result (λ next. (line_after text.now at ≤ next) × (next ≤ length text.now)) }
 {
     let mut page = [0u8; page::ROOM];
     let mut line = [0u8; WIDEST];
     let below = under(state, text, at, &mut page);
     let done = answer_line(state, text, at, &mut line, 0);
-    let end = done.place;
-    if !io::write_all(1, &line[..end]) {
-        return text.len();
-    }
-    if !io::write_all(1, &page[..below]) {
-        return text.len();
-    }
-    done.at
+    let written = io::write_all(1, &line[..done.place]) && io::write_all(1, &page[..below]);
+    written.then_some(done.at)
 }
 
-// Every line of the text.
+// Every line of the text, until a write fails.
 fn print_all(state: &mut [u8], text: &[u8]) {
     let mut at = 0;
     while at < text.len() {
-        at = print_line(state, text, at);
+        let Some(next) = print_line(state, text, at) else {
+            return;
+        };
+        at = next;
     }
 }
 
@@ -57,6 +52,6 @@ fn main() {
         return;
     }
     let mut state = [0u8; LENGTH];
-    start(&mut state, FALLING as u32);
+    let _ = start(&mut state, u32::from(FALLING));
     print_all(&mut state, &input[..n]);
 }

@@ -1,5 +1,5 @@
 -- The lines of a page, piece by piece.
-use mathlib.Core.Path.{◌≡◌, refl, ap}
+use mathlib.Core.Path.{◌≡◌, refl, sym, ap, subst, ◌∙◌}
 use mathlib.Core.List.{List, [], ◌∷◌, ◌++◌}
 use Prim.Native.Nat.{ℕ, zero, suc, ◌+◌, ◌-◌, ◌≤◌, ◌<◌}
 use native.Mathlib.Omega.{arith}
@@ -10,6 +10,8 @@ use Rattle.spread.specs.Limits.{columns}
 use Rattle.plain.specs.Matrix.{Marked}
 use Rattle.plain.proofs.MatrixLaws.{marked-at}
 use Rattle.visits.specs.declared.choose.Chosen.{Chosen}
+use Rattle.octets.specs.declared.writer.Writer.{Writer}
+use Rattle.page.proofs.PutLaws.{Going}
 use Rattle.page.specs.Page.{down, cell_text, cells_of, row_line, row_lines}
 use Rattle.page.specs.InNumbers.{cells_at, mark_in, line_in}
 
@@ -46,9 +48,15 @@ rows_same f g [] h = refl
 rows_same f g (i ∷ rows) h = rw (h i, rows_same f g rows h)
 
 -- the cells of a filled matrix are the bits of the row's weight, so the line put is that of the row
-pub line_marked : (f : ℕ → ℕ) (rows : List ℕ) (n : ℕ) (m : List ℕ) (x : Chosen) (r : ℕ) {i w : ℕ} → Marked f rows n m → r < n → x.order ≤ columns
+pub line_marked : (f : ℕ → ℕ) (rows : List ℕ) (n : ℕ) (m : List (List ℕ)) (x : Chosen) (r : ℕ) {i w : ℕ} → Marked f rows n m → r < n → x.order ≤ columns
     → i ≡ get_or rows r 0 → w ≡ f (get_or rows r 0) → row_line i w (cells_at m r x.order) (mark_in x i) ≡ line_in f x (get_or rows r 0)
 line_marked f rows n m x r marked l k e g =
     let same : cells_at m r x.order ≡ cells_of x.order (f (get_or rows r 0)) =
     down-same _ _ x.order (λ c d. ap cell_text (marked-at f rows n m marked c r (omega arith) l)) in
     rw (same, e, g)
+
+-- the line of the next row is the next piece of what is left to write
+pub next-row : {w v : Writer} {whole : List ℕ} (f : ℕ → List ℕ) (rows : List ℕ) (r : ℕ) {line : List ℕ} → r < length rows → line ≡ f (get_or rows r 0)
+    → Going w whole (row_lines f (drop r rows)) v → Going w whole (line ++ row_lines f (drop (r + 1) rows)) v
+next-row {w} {v} {whole} f rows r {line} l e g =
+    subst (λ (t : List ℕ). Going w whole t v) (rows_next f rows r l ∙ ap (λ (t : List ℕ). t ++ row_lines f (drop (r + 1) rows)) (sym e)) g

@@ -1,72 +1,37 @@
--- What is put piece by piece is put as a whole: a text is passed, and a rest is left.
-use mathlib.Core.Path.{◌≡◌, refl, sym, ap, ◌∙◌}
+-- What is written piece by piece is written as a whole: some of it is passed, and a rest is left.
+use mathlib.Core.Path.{◌≡◌, refl, ap, ◌∙◌}
 use mathlib.Core.List.{List, [], ◌∷◌, ◌++◌, append_assoc, append-nil}
-use Prim.Native.Nat.{ℕ, suc, zero-le, ◌+◌, ◌-◌, ◌≤◌, ◌<◌}
-use native.Mathlib.Nat.{add-zero}
+use Prim.Native.Nat.{ℕ, zero-le, ◌+◌, ◌-◌, ◌≤◌}
 use native.Mathlib.Omega.{arith}
-use lib.ListN.{length, replicate, length-append, length-replicate}
-use Rattle.octets.specs.Writing.{written}
-use Rattle.octets.proofs.WritingLaws.{written_none, written_next, place-next, length-written}
+use lib.ListN.{length, length-append, length-replicate}
+use Rattle.std.proofs.lemmas.Grind.{replicate_next}
+use Rattle.octets.specs.Wrote.{Wrote}
+use Rattle.octets.specs.declared.writer.Writer.{Writer}
+use Rattle.octets.proofs.WroteLaws.{nothing_wrote, then_wrote}
 use Rattle.text.specs.Answers.{Stands}
-use Rattle.text.proofs.OutputLaws.{written_stands}
-use Rattle.page.specs.Puts.{Puts, gap}
+use Rattle.page.specs.Puts.{gap}
 
--- what the text's writers say
-pub put : (a : List ℕ) {s : List ℕ} {at r : ℕ} {o : List ℕ} → r ≡ at + length a → o ≡ written s at a → at + length a ≤ length s → Puts s at a r o
-put a p t h = record { place = p; text = t; room = omega arith }
-
--- nothing put
-pub put-none : (s : List ℕ) (at : ℕ) → at ≤ length s → Puts s at [] at s
-put-none s at h = record { place = sym (add-zero at); text = sym (written_none s at); room = h }
-
--- the text keeps its length
-pub put-length : {s : List ℕ} {at : ℕ} {a : List ℕ} {r : ℕ} {o : List ℕ} → Puts s at a r o → length o ≡ length s
-put-length {s} {at} {a} {r} {o} P = ap length P.text ∙ length-written s at a (omega (arith, P.place, P.room))
-
--- one after the other
-pub put_on : {s : List ℕ} {at : ℕ} {a b : List ℕ} {p q : ℕ} {o u : List ℕ} → Puts s at a p o → Puts o p b q u → Puts s at (a ++ b) q u
-put_on {s} {at} {a} {b} {p} {q} {o} {u} P Q =
-    record {
-      place = Q.place ∙ place-next s at a b p P.place;
-      text = Q.text ∙ written_next s at a b o p P.text P.place (omega (arith, P.place, Q.place, Q.room, put-length P));
-      room = omega (arith, Q.room, put-length P);
-    }
-
--- of the whole, put from `at` on, what is before p is put, and the rest is left
-pub record Going (s : List ℕ) (at : ℕ) (whole rest : List ℕ) (p : ℕ) (o : List ℕ) : Type 0 where
+-- of the whole, written from the place of w on, what is before that of v is written, and the rest is left
+pub record Going (w : Writer) (whole rest : List ℕ) (v : Writer) : Type 0 where
   pub passed : List ℕ
-  pub puts : Puts s at passed p o
+  pub wrote : Wrote w passed v
   pub joined : passed ++ rest ≡ whole
 
--- the first piece is put
-pub starts : (a rest : List ℕ) {s : List ℕ} {at p : ℕ} {o : List ℕ} → Puts s at a p o → Going s at (a ++ rest) rest p o
-starts a rest P = record { passed = a; puts = P; joined = refl }
+pub begins : (w : Writer) (whole : List ℕ) → w.at ≤ length w.out.now → Going w whole whole w
+begins w whole h = record { passed = []; wrote = nothing_wrote w h; joined = refl }
 
-pub room-first : (at : ℕ) (a rest : List ℕ) {n : ℕ} → at + length (a ++ rest) ≤ n → at + length a ≤ n
-room-first at a rest h = omega (arith, length-append a rest)
+module _ {w : Writer} {whole : List ℕ} where
+  -- there is room for the next piece
+  pub room_next : (b rest : List ℕ) {v : Writer} → Going w whole (b ++ rest) v → w.at + length whole ≤ length w.out.now → v.at + length b ≤ length v.out.now
+  room_next b rest g h =
+      omega (arith, g.wrote.written.place, g.wrote.same_length, ap length g.joined, length-append g.passed (b ++ rest), length-append b rest)
 
-pub begins : (s : List ℕ) (at : ℕ) (whole : List ℕ) → at ≤ length s → Going s at whole whole at s
-begins s at whole h = record { passed = []; puts = put-none s at h; joined = refl }
+  -- one piece more
+  pub goes : (b rest : List ℕ) {v u : Writer} → Going w whole (b ++ rest) v → Wrote v b u → Going w whole rest u
+  goes b rest g W = record { passed = g.passed ++ b; wrote = then_wrote g.wrote W; joined = append_assoc g.passed b rest ∙ g.joined }
 
-module _ {s : List ℕ} {at : ℕ} {whole : List ℕ} where
-  -- there is room for the rest
-  pub room-left : {rest : List ℕ} {p : ℕ} {o : List ℕ} → Going s at whole rest p o → at + length whole ≤ length s → p + length rest ≤ length o
-  room-left {rest} {p} {o} g h =
-      omega (arith, g.puts.place, put-length g.puts, ap length g.joined, length-append g.passed rest)
-
-  pub room_next : (b rest : List ℕ) {p : ℕ} {o : List ℕ} → Going s at whole (b ++ rest) p o → at + length whole ≤ length s → p + length b ≤ length o
-  room_next b rest g h = omega (arith, room-left g h, length-append b rest)
-
-  -- one piece more, and the last
-  pub goes : (b rest : List ℕ) {p q : ℕ} {o u : List ℕ} → Going s at whole (b ++ rest) p o → Puts o p b q u → Going s at whole rest q u
-  goes b rest g Q =
-      record { passed = g.passed ++ b; puts = put_on g.puts Q; joined = append_assoc g.passed b rest ∙ g.joined }
-
-  pub ends : {rest : List ℕ} {p q : ℕ} {o u : List ℕ} → Going s at whole rest p o → Puts o p rest q u → Puts s at whole q u
-  ends {rest} {p} {q} {o} {u} g Q = rw (← g.joined) (put_on g.puts Q)
-
-  pub ended : {p : ℕ} {o : List ℕ} → Going s at whole [] p o → Puts s at whole p o
-  ended {p} {o} g = rw (← g.joined, append-nil g.passed) g.puts
+  pub ended : {v : Writer} → Going w whole [] v → Wrote w whole v
+  ended g = rw (← g.joined, append-nil g.passed) g.wrote
 
 -- ---- spaces
 
@@ -74,18 +39,18 @@ pub gap_length : (w n : ℕ) → length (gap w n) ≡ w - n
 gap_length w n = length-replicate (w - n) 32
 
 -- one more
-pub gap-next : (w n : ℕ) → n < w → gap w n ≡ (32 ∷ []) ++ gap w (n + 1)
-gap-next w n h = let e : w - n ≡ suc (w - (n + 1)) = omega arith in ap (λ (k : ℕ). replicate {A = ℕ} k 32) e
+pub gap-next : (i n : ℕ) → n ≤ i → gap i n ++ 32 ∷ [] ≡ gap (i + 1) n
+gap-next i n h = let e : i + 1 - n ≡ (i - n) + 1 = omega arith in rw (e, replicate_next {X = ℕ} (i - n) 32)
 
--- no more
-pub gap-none : (w n : ℕ) → w ≤ n → gap w n ≡ []
-gap-none w n h = let e : w - n ≡ 0 = omega arith in ap (λ (k : ℕ). replicate {A = ℕ} k 32) e
+-- all
+pub gap_all : (i w n : ℕ) → w ≤ i → i - n ≤ w - n → gap i n ≡ gap w n
+gap_all i w n h l = let e : i - n ≡ w - n = omega arith in rw e
 
--- ---- at the start of the text
+-- none
+pub gap-none : (w n : ℕ) → w ≤ n → [] ≡ gap w n
+gap-none w n h = let e : w - n ≡ 0 = omega arith in rw e
 
--- what is put there stands there
-pub stands : {s : List ℕ} {a : List ℕ} {r : ℕ} {o : List ℕ} → Puts s 0 a r o → Stands a r o
-stands {s} {a} {r} {o} P = written_stands a s (omega (arith, P.place, P.room)) P.place P.text
+-- ---- no page
 
 pub stands-none : {a o : List ℕ} → a ≡ [] → Stands a 0 o
 stands-none e = rw e (record { whole = refl; room = zero-le; counted = refl })

@@ -9,7 +9,7 @@ use Rattle.visits.specs.declared.choose.Chosen.{Chosen}
 use Rattle.page.specs.Page.{term_shown, first_line, down, columns_line, cell_text, mark, row_line, cells_of, row_lines}
 
 -- the cells of row r of the matrix m, in a round of order k
-abbrev pub cells_at : List ℕ → ℕ → ℕ → List ℕ
+abbrev pub cells_at : List (List ℕ) → ℕ → ℕ → List ℕ
 cells_at m r k = down (λ c. cell_text (cell m c r)) k
 
 -- the mark of slot i, and its line, f giving its weight

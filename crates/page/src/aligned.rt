@@ -1,43 +1,34 @@
-// Numbers right-aligned in a width. Each function but the first answers the place after what it put.
+// Numbers right-aligned in a width.
 ghost use Rattle.std.specs.Prelude.{◌≡◌, ◌+◌, ◌-◌, ◌≤◌, ◌<◌, length};
+ghost use Rattle.octets.specs.Wrote.{Wrote};
 ghost use Rattle.text.specs.Digits.{digits};
-ghost use Rattle.page.specs.Puts.{Puts, gap, aligned};
+ghost use Rattle.page.specs.Puts.{gap, aligned};
 
-use text::writing::{put_byte, put_decimal};
+use octets::writer::Writer;
+use text::writing::put_decimal;
 
 // How many digits a number has.
 pub fn digits_of(n: u32) -> usize
     ensures { (result ≡ length (digits n)) × (result < 11) }
 {
-    let mut left = n;
-    let mut count = 1;
-    while 10 <= left {
-        left = left / 10;
-        count += 1;
-    }
-    count
+    n.checked_ilog10().unwrap_or(0) as usize + 1
 }
 
 // Spaces: as many as a width has left beside n bytes.
-pub fn put_gap(out: &mut [u8], at: usize, width: usize, n: usize) -> usize
-    requires { at + (width - n) ≤ length out.old }
-    ensures { Puts out.old at (gap width n) result out.new }
+pub fn put_gap(w: &mut Writer<'_>, width: usize, n: usize)
+    requires { w.old.at + (width - n) ≤ length w.old.out.now }
+    ensures { Wrote w.old (gap width n) w.new }
 {
-    let mut next = at;
-    let mut taken = n;
-    while taken < width {
-        next = put_byte(out, next, b' ');
-        taken += 1;
+    for _ in n..width {
+        w.byte(b' ');
     }
-    next
 }
 
 // A number right-aligned in a width.
-pub fn put_aligned(out: &mut [u8], at: usize, width: usize, n: u32) -> usize
-    requires { at + length (aligned width (digits n)) ≤ length out.old }
-    ensures { Puts out.old at (aligned width (digits n)) result out.new }
+pub fn put_aligned(w: &mut Writer<'_>, width: usize, n: u32)
+    requires { w.old.at + length (aligned width (digits n)) ≤ length w.old.out.now }
+    ensures { Wrote w.old (aligned width (digits n)) w.new }
 {
-    let size = digits_of(n);
-    let next = put_gap(out, at, width, size);
-    put_decimal(out, next, n)
+    put_gap(w, width, digits_of(n));
+    put_decimal(w, n);
 }

@@ -1,105 +1,95 @@
-// The two lines over the rows: order, P, term and column, and the columns' numbers. Each function answers the place after what it put.
+// The two lines over the rows: order, P, term and column, and the columns' numbers.
 //
 // A number that there may not be (the term, the column being scanned) is held as one more than it, and as 0 where there is none.
 ghost use Rattle.std.specs.Prelude.{◌++◌, ◌∷◌, ◌+◌, ◌≤◌, ◌<◌, length};
 ghost use Rattle.spread.specs.Limits.{columns};
+ghost use Rattle.octets.specs.Wrote.{Wrote};
 ghost use Rattle.text.specs.Digits.{digits};
-ghost use Rattle.page.specs.Puts.{Puts, aligned};
+ghost use Rattle.page.specs.Puts.{aligned};
 ghost use Rattle.page.specs.Page.{or_dash, first_line, column_text, columns_line, down};
 
 use super::aligned::{digits_of, put_aligned, put_gap};
-use text::writing::{put_byte, put_bytes, put_decimal};
+use octets::writer::Writer;
+use text::writing::put_decimal;
 
 // A word and its number.
-fn put_number(out: &mut [u8], at: usize, word: &[u8], n: u32) -> usize
-    requires { at + length (word.now ++ digits n) ≤ length out.old }
-    ensures { Puts out.old at (word.now ++ digits n) result out.new }
+fn put_number(w: &mut Writer<'_>, word: &[u8], n: u32)
+    requires { w.old.at + length (word.now ++ digits n) ≤ length w.old.out.now }
+    ensures { Wrote w.old (word.now ++ digits n) w.new }
 {
-    let next = put_bytes(out, at, word);
-    put_decimal(out, next, n)
+    w.bytes(word);
+    put_decimal(w, n);
 }
 
 // A number, or `-` where there is none.
-fn put_or_dash(out: &mut [u8], at: usize, shown: u32) -> usize
-    requires { at + length (or_dash shown) ≤ length out.old }
-    ensures { Puts out.old at (or_dash shown) result out.new }
+fn put_or_dash(w: &mut Writer<'_>, shown: u32)
+    requires { w.old.at + length (or_dash shown) ≤ length w.old.out.now }
+    ensures { Wrote w.old (or_dash shown) w.new }
 {
-    if shown == 0 {
-        return put_byte(out, at, b'-');
+    match shown.checked_sub(1) {
+        Some(n) => put_decimal(w, n),
+        None => w.byte(b'-'),
     }
-    put_decimal(out, at, shown - 1)
 }
 
 // A word and its number, if there is one.
-fn put_shown(out: &mut [u8], at: usize, word: &[u8], shown: u32) -> usize
-    requires { at + length (word.now ++ or_dash shown) ≤ length out.old }
-    ensures { Puts out.old at (word.now ++ or_dash shown) result out.new }
+fn put_shown(w: &mut Writer<'_>, word: &[u8], shown: u32)
+    requires { w.old.at + length (word.now ++ or_dash shown) ≤ length w.old.out.now }
+    ensures { Wrote w.old (word.now ++ or_dash shown) w.new }
 {
-    let next = put_bytes(out, at, word);
-    put_or_dash(out, next, shown)
+    w.bytes(word);
+    put_or_dash(w, shown);
 }
 
 // `|  order k   P p   term t   column c`
-pub fn put_first(
-    out: &mut [u8],
-    at: usize,
-    order: u32,
-    position: u32,
-    term: u32,
-    column: u32,
-) -> usize
-    requires { at + length (first_line order position term column) ≤ length out.old }
-    ensures { Puts out.old at (first_line order position term column) result out.new }
+pub fn put_first(w: &mut Writer<'_>, order: u32, position: u32, term: u32, column: u32)
+    requires { w.old.at + length (first_line order position term column) ≤ length w.old.out.now }
+    ensures { Wrote w.old (first_line order position term column) w.new }
 {
-    let a = put_number(out, at, b"|  order ", order);
-    let b = put_number(out, a, b"   P ", position);
-    let c = put_shown(out, b, b"   term ", term);
-    let d = put_shown(out, c, b"   column ", column);
-    put_byte(out, d, 10)
+    put_number(w, b"|  order ", order);
+    put_number(w, b"   P ", position);
+    put_shown(w, b"   term ", term);
+    put_shown(w, b"   column ", column);
+    w.byte(b'\n');
 }
 
 // The number of the column being scanned: `>` stands before it.
-fn put_scanned(out: &mut [u8], at: usize, n: u32) -> usize
-    requires { at + length (aligned 3 (62 ∷ digits n)) ≤ length out.old }
-    ensures { Puts out.old at (aligned 3 (62 ∷ digits n)) result out.new }
+fn put_scanned(w: &mut Writer<'_>, n: u32)
+    requires { w.old.at + length (aligned 3 (62 ∷ digits n)) ≤ length w.old.out.now }
+    ensures { Wrote w.old (aligned 3 (62 ∷ digits n)) w.new }
 {
-    let size = digits_of(n) + 1;
-    let a = put_gap(out, at, 3, size);
-    let b = put_byte(out, a, b'>');
-    put_decimal(out, b, n)
+    put_gap(w, 3, digits_of(n) + 1);
+    w.byte(b'>');
+    put_decimal(w, n);
 }
 
 // A column's number.
-fn put_column(out: &mut [u8], at: usize, n: u32, column: u32) -> usize
-    requires { (n < columns) × (at + length (column_text column n) ≤ length out.old) }
-    ensures { Puts out.old at (column_text column n) result out.new }
+fn put_column(w: &mut Writer<'_>, n: u32, column: u32)
+    requires { (n < columns) × (w.old.at + length (column_text column n) ≤ length w.old.out.now) }
+    ensures { Wrote w.old (column_text column n) w.new }
 {
     if n + 1 == column {
-        return put_scanned(out, at, n);
+        return put_scanned(w, n);
     }
-    put_aligned(out, at, 3, n)
+    put_aligned(w, 3, n);
 }
 
 // The columns' numbers, the highest first.
-fn put_columns(out: &mut [u8], at: usize, order: u32, column: u32) -> usize
-    requires { (order ≤ columns) × (at + length (down (column_text column) order) ≤ length out.old) }
-    ensures { Puts out.old at (down (column_text column) order) result out.new }
+fn put_columns(w: &mut Writer<'_>, order: u32, column: u32)
+    requires { (order ≤ columns) × (w.old.at + length (down (column_text column) order) ≤ length w.old.out.now) }
+    ensures { Wrote w.old (down (column_text column) order) w.new }
 {
-    let mut next = at;
-    let mut n = order;
-    while 0 < n {
-        n -= 1;
-        next = put_column(out, next, n, column);
+    for n in (0..order).rev() {
+        put_column(w, n, column);
     }
-    next
 }
 
 // `|    slot   weight  ` and the columns' numbers.
-pub fn put_second(out: &mut [u8], at: usize, order: u32, column: u32) -> usize
-    requires { (order ≤ columns) × (at + length (columns_line order column) ≤ length out.old) }
-    ensures { Puts out.old at (columns_line order column) result out.new }
+pub fn put_second(w: &mut Writer<'_>, order: u32, column: u32)
+    requires { (order ≤ columns) × (w.old.at + length (columns_line order column) ≤ length w.old.out.now) }
+    ensures { Wrote w.old (columns_line order column) w.new }
 {
-    let a = put_bytes(out, at, b"|    slot   weight  ");
-    let b = put_columns(out, a, order, column);
-    put_byte(out, b, 10)
+    w.bytes(b"|    slot   weight  ");
+    put_columns(w, order, column);
+    w.byte(b'\n');
 }

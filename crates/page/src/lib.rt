@@ -11,10 +11,10 @@ ghost use Rattle.rules.specs.State.{weights};
 ghost use Rattle.memory.specs.Reading.{state_of};
 ghost use Rattle.memory.specs.Search.{RowsWithin};
 ghost use Rattle.uplink.specs.Holds.{TakesSteps};
+ghost use Rattle.octets.specs.Wrote.{Wrote};
 ghost use Rattle.text.specs.Answers.{Stands};
 ghost use Rattle.text.specs.Commands.{command_of};
 ghost use Rattle.text.specs.Lines.{line_at};
-ghost use Rattle.page.specs.Puts.{Puts};
 ghost use Rattle.page.specs.Page.{term_shown, row_lines, page_of, page_on, page_under, page_room};
 ghost use Rattle.page.specs.InNumbers.{line_in, scanned_in, head_in, Taken};
 
@@ -22,8 +22,9 @@ use bits::trailing_of;
 use memory::layout::BASE;
 use memory::point::{Scan, is_parked, load_scan};
 use memory::rows::row_count;
+use octets::writer::Writer;
 use plain::choose::choose;
-use plain::matrix::{CELLS, fill};
+use plain::matrix::filled;
 use rules::SLOTS;
 use soundness::check;
 use spread::COLUMNS;
@@ -56,47 +57,37 @@ fn scanned(scan: Scan, chosen: Chosen) -> u32
     ensures { result ≡ scanned_in scan chosen }
 {
     if chosen.terms != 0 {
-        return column_at(chosen.order as u32, chosen.scan.position as u32) + 1;
+        return column_at(u32::from(chosen.order), chosen.scan.position as u32) + 1;
     }
     if scan.mask != 0 {
-        return scan.column as u32 + 1;
+        return u32::from(scan.column) + 1;
     }
     0
 }
 
 // The two lines over the rows.
-fn put_head(out: &mut [u8], at: usize, scan: Scan, chosen: Chosen) -> usize
-    requires { Taken chosen × (at + length (head_in scan chosen) ≤ length out.old) }
-    ensures { Puts out.old at (head_in scan chosen) result out.new }
+fn put_head(w: &mut Writer<'_>, scan: Scan, chosen: Chosen)
+    requires { Taken chosen × (w.old.at + length (head_in scan chosen) ≤ length w.old.out.now) }
+    ensures { Wrote w.old (head_in scan chosen) w.new }
 {
-    let order = chosen.order as u32;
+    let order = u32::from(chosen.order);
     let position = chosen.scan.position as u32;
-    let term = term_shown(position);
     let column = scanned(scan, chosen);
-    let next = head::put_first(out, at, order, position, term, column);
-    head::put_second(out, next, order, column)
+    head::put_first(w, order, position, term_shown(position), column);
+    head::put_second(w, order, column);
 }
 
-// The rows' lines, from a matrix of their own.
-fn put_body(state: &[u8], out: &mut [u8], at: usize, chosen: Chosen) -> usize
-    requires { RowsWithin state.now × (chosen.order ≤ columns)
-        × (at + length (row_lines (line_in (weights (state_of state.now).channels) chosen) (state_of state.now).rows) ≤ length out.old) }
-    ensures { Puts out.old at (row_lines (line_in (weights (state_of state.now).channels) chosen) (state_of state.now).rows) result out.new }
-{
-    let mut matrix: [u8; CELLS] = [0; CELLS];
-    fill(state, &mut matrix);
-    rows::put_rows(state, &matrix, out, at, chosen)
-}
-
-// The page of the base of a memory that takes calls and has rows, as what Next does on it.
+// The page of the base of a memory that takes calls and has rows, as what Next does on it. The rows' lines are from a matrix of their own.
 fn page_of(state: &[u8], out: &mut [u8]) -> usize
     requires { TakesSteps state.now × (is_empty (state_of state.now).rows ≡ false) × (page_room ≤ length out.old) }
-    ensures { Puts out.old 0 (page_of (state_of state.now)) result out.new }
+    ensures { Stands (page_of (state_of state.now)) result out.new }
 {
     let scan = load_scan(state);
     let chosen = choose(state, scan);
-    let next = put_head(out, 0, scan, chosen);
-    put_body(state, out, next, chosen)
+    let mut w = Writer { out, at: 0 };
+    put_head(&mut w, scan, chosen);
+    rows::put_rows(&mut w, state, &filled(state), chosen);
+    w.at
 }
 
 // The page of a lent memory, as what Next does on it, at the start of `out`; its length is the answer, and 0 where Next is refused.
@@ -104,14 +95,10 @@ pub fn page(state: &[u8], out: &mut [u8]) -> usize
     requires { page_room ≤ length out.old }
     ensures { Stands (page_on state.now) result out.new }
 {
-    if !check(state) {
+    if !check(state) || is_parked(state) {
         return 0;
     }
-    if is_parked(state) {
-        return 0;
-    }
-    let end = BASE;
-    page_on(&state[..end], out)
+    page_on(&state[..BASE], out)
 }
 
 // The page of the base of a memory that takes calls, and none where there are no rows.

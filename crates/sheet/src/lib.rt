@@ -59,16 +59,14 @@ fn hold(line: &[u8], rows: &[u32], start: usize) -> Result<usize, usize>
     Ok(start + both)
 }
 
-// The lines of the first k columns.
-fn lay(weights: &[u32], k: u32) -> [Line; COLUMNS]
+// The lines of the first k columns, in the room lent for them: given back, they would stand twice on the stack.
+fn lay(weights: &[u32], k: u32, lines: &mut [Line; COLUMNS])
     requires { (length weights.now ≤ rows_most) × (k ≤ columns_on_sheet) }
-    ensures { Laid weights.now result k }
+    ensures { Laid weights.now lines.new k }
 {
-    let mut lines = [Line::new(); COLUMNS];
     for column in 0..k {
         lines[column as usize].lay(weights, column);
     }
-    lines
 }
 
 // The visits of a round of these weights held against the list.
@@ -77,7 +75,8 @@ fn round(weights: &[u32], rows: &[u32]) -> Result<usize, usize>
     ensures { result ≡ matched rows.now 0 (round_of weights.now) }
 {
     let k = order_all(weights);
-    let lines = lay(weights, k);
+    let mut lines = [Line::new(); COLUMNS];
+    lay(weights, k, &mut lines);
     let mut at = 0;
     for position in 1..1 << k {
         at = hold(lines[column_at(k, position) as usize].rows(), rows, at)?;

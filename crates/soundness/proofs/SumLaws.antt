@@ -89,7 +89,7 @@ strided_turn f n x v l e h =
 slot_difference : (s t n before behind : ℕ) → s ≤ 64896 → t ≡ n + s → before ≡ n % 65536 → behind ≡ t % 65536 → (behind + (65536 - before)) % 65536 ≡ s
 slot_difference s t n before behind h e p q = omega arith
 
-first-turn : (b : List ℕ) (i : ℕ) → first_at b (i + 1) ≡ first_at b i + waiting_at b i
+pub first-turn : (b : List ℕ) (i : ℕ) → first_at b (i + 1) ≡ first_at b i + waiting_at b i
 unfolding first_at
 first-turn b i = rw (add-one i) refl
 
@@ -139,6 +139,7 @@ size-most b total p e l =
     leb-true (length_at b p) 1014 (and-true (leb 1 (length_at b p)) (leb (length_at b p) 1014) (all-at total (λ p. length_rule (length_at b p)) e p l)).1
 
 module _ (b : List ℕ) (total : ℕ) (h : Counted b total) where
+  -- the place of the next slot's first record
   pub first_next : (s at w : ℕ) → s < 64 → at ≡ first_at b s → w ≡ waiting_at b s → (at + w ≡ first_at b (s + 1)) × (at + w ≤ total)
   first_next s at w l e g =
       let next : at + w ≡ first_at b (s + 1) = omega (arith, first-turn b s) in

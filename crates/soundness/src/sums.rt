@@ -6,17 +6,15 @@
 //
 // The slots are held against these totals in one of two forms. Where few records wait, one loop that ends with the records is cheapest.
 // Where many do, the totals behind the slots are put into a line of their own first, since the compiler then compares eight slots at a step.
-ghost use Rattle.std.specs.Prelude.{◌≡◌, ℕ, ◌+◌, ◌-◌, ◌*◌, ◌%◌, ◌<◌, ◌≤◌, true, ◌&&◌, length, ◌==◌, slice_index};
+ghost use Rattle.std.specs.Prelude.{◌≡◌, ℕ, ◌+◌, ◌-◌, ◌%◌, ◌<◌, ◌≤◌, true, ◌&&◌, length, ◌==◌, slice_index};
 ghost use Rattle.rules.specs.Numbers.{slots, cells};
 ghost use Rattle.memory.specs.Reading.{first_at, bytes_at};
 ghost use Rattle.soundness.specs.Check.{all_below, lengths_rule};
 ghost use Rattle.soundness.specs.Notes.{length_at, sum_of, sums_rule, idle_rule, between_rule, Strided, Ended, Counted};
 
-use super::base_of;
 use super::lines::{every, length_ok};
 use fullest::keys::two;
 use memory::layout::{BYTES, CELLS, Memory, RECORD_LENGTH, WAITING};
-use memory::records::first_of;
 use rules::SLOTS;
 
 // Room for the totals before and behind each record.
@@ -145,19 +143,11 @@ fn many_ok(state: &Memory, total: usize) -> bool
     between_ok(state, &ends, n) & idle_ok(state)
 }
 
-// How many records there are.
-fn total_of(state: &Memory) -> usize
-    ensures { result ≡ first_at state.now slots }
-{
-    first_of(base_of(state), SLOTS)
-}
-
 // The same of all records there are.
-pub fn sums(state: &Memory) -> bool
-    requires { Counted state.now (first_at state.now slots) }
-    ensures { result ≡ (lengths_rule state.now (first_at state.now slots) && sums_rule state.now) }
+pub fn sums(state: &Memory, total: usize) -> bool
+    requires { Counted state.now total }
+    ensures { result ≡ (lengths_rule state.now total && sums_rule state.now) }
 {
-    let total = total_of(state);
     if total <= FEW {
         return few_ok(state, total);
     }

@@ -19,7 +19,7 @@ use Rattle.bits.proofs.OrderLaws.{order-pos, order-top, order-above}
 use Rattle.bits.proofs.TrailingLaws.{trailing_odd, trailing_lt, trailing_mod, trailing_div}
 use Rattle.spread.specs.Sequence.{term}
 use Rattle.spread.specs.Visits.{column_at}
-use Rattle.spread.specs.Jump.{filled_at, searched, multiple, jump, Found}
+use Rattle.spread.specs.Jump.{filled_at, searched, multiple, jump, Found, landing}
 
 -- ---- the search
 
@@ -177,3 +177,18 @@ search-means (suc f) k u p l = go (ltb (suc p) (2 ^ k)) refl (filled_at k u (suc
 -- the jump finds the first one, and none only where there is none
 pub jump-means : (k u p : ℕ) → 0 < u → order u ≤ k → Found k u p (jump k u p)
 jump-means k u p h o = subst (Found k u p) (jump-law k u p h o) (search-means (2 ^ k) k u p (omega arith))
+
+-- in one number: any but 0 is that position, and 0 says that there is none, as a position found comes after another and so is not 0
+pub landing-found : (k u p : ℕ) → 0 < u → order u ≤ k → 0 < landing (jump k u p) → Found k u p (Some (landing (jump k u p)))
+landing-found k u p h o = go (jump k u p) (jump-means k u p h o)
+  where
+    go : (j : Option ℕ) → Found k u p j → 0 < landing j → Found k u p (Some (landing j))
+    go None f l = absurd (omega arith)
+    go (Some t) f l = f
+
+pub landing-none : (k u p : ℕ) → 0 < u → order u ≤ k → landing (jump k u p) ≡ 0 → Found k u p None
+landing-none k u p h o = go (jump k u p) (jump-means k u p h o)
+  where
+    go : (j : Option ℕ) → Found k u p j → landing j ≡ 0 → Found k u p None
+    go None f e = f
+    go (Some t) f e = absurd (let l = f.0 in omega arith)

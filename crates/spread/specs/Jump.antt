@@ -30,3 +30,8 @@ jump k u p =
 abbrev pub Found : ℕ → ℕ → ℕ → Option ℕ → Type 0
 Found k u p None = (q : ℕ) → p < q → q < 2 ^ k → bit (column_at k q) u ≡ 0
 Found k u p (Some t) = (p < t) × (t < 2 ^ k) × (bit (column_at k t) u ≡ 1) × ((q : ℕ) → p < q → q < t → bit (column_at k q) u ≡ 0)
+
+-- where a jump lands, in one number: no position is 0, so 0 says that this round has none left
+abbrev pub landing : Option ℕ → ℕ
+landing None = 0
+landing (Some t) = t

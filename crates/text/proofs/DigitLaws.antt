@@ -113,3 +113,12 @@ digits-length (suc k) n h = go (ltb n 10) refl (λ (f : n / 10 < 10 ^ suc k). di
 -- a number of 32 bits has at most ten
 pub digits-ten : (n : ℕ) → n < 2 ^ 32 → length (digits n) ≤ 10
 digits-ten n h = digits-length 9 n (omega arith)
+
+-- the highest power of ten that is not above the number tells
+pub digits-power : (k n : ℕ) → 10 ^ k ≤ n → n < 10 * 10 ^ k → length (digits n) ≡ k + 1
+digits-power zero n h g = digits-length-one n (omega arith)
+digits-power (suc k) n h g =
+    let power : 10 ^ suc k ≡ 10 ^ k * 10 = pow-suc 10 k in
+    let more : 10 ≤ n = omega (arith, power) in
+    let higher = digits-power k (n / 10) (omega (arith, power)) (omega (arith, power)) in
+    omega (arith, digits-length-more n more, higher)

@@ -14,7 +14,7 @@ use rules::FALLING;
 use uplink::open::start;
 
 // "Input above 65,536 bytes prints only `? input`."
-const MOST: usize = 65536;
+pub const MOST: usize = 65536;
 
 // The zeros that the output is written over: 40 bytes for each byte of the largest input, and 40 more (`room_for`).
 pub fn room() -> [u8; 2621480]
@@ -48,6 +48,6 @@ pub fn run(input: &[u8], n: usize, out: &mut [u8]) -> usize
         return w.at;
     }
     let mut state = [0u8; LENGTH];
-    let _ = start(&mut state, FALLING as u32);
+    let _ = start(&mut state, u32::from(FALLING));
     answer_all(&mut state, &input[..n], out)
 }

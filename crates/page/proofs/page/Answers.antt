@@ -14,6 +14,7 @@ use Rattle.uplink.proofs.Lending.{base-takes, base-long}
 use Rattle.page.specs.Page.{page_by, page_of, page_on}
 use Rattle.page.proofs.PutLaws.{stands-none}
 use Rattle.page.proofs.page.Goals as goal
+use Rattle.page.proofs.page.Goals.{then-not-check-via-then-not-check, then-not-check-via-else-not-check+then-is_parked}
 
 unsound-none : (b : List ℕ) → sound_bytes b ≡ false → page_on b ≡ []
 unfolding page_on
@@ -27,21 +28,20 @@ parked-none : (s : State) → s.parked ≡ true → page_of s ≡ []
 unfolding page_of
 parked-none s e = ap (λ (m : Bool). cond (m || is_empty s.rows) [] (page_by s (choose_by s.scan.visit s))) e
 
-pub returns-then-not-check : goal.returns-then-not-check
-returns-then-not-check c =
-    let b = c.args.state.now in
-    stands-none (unsound-none b (sym c.check.ensures ∙ c.if-not-check.true))
-
 pub is_parked-requires : goal.is_parked-requires
 is_parked-requires c =
     let sound : sound_bytes c.args.state.now ≡ true = sym c.check.ensures ∙ c.if-not-check.false in
     omega (arith, (memory-sound c.args.state.now sound).size)
 
-pub returns-then-is_parked : goal.returns-then-is_parked
-returns-then-is_parked c =
-    let sound : sound_bytes c.args.state.now ≡ true = sym c.check.ensures ∙ c.if-not-check.false in
+pub returns-then-not-check : goal.returns-then-not-check
+returns-then-not-check c =
     let b = c.args.state.now in
-    stands-none (sound_page b sound ∙ parked-none (state_of b) (sym c.is_parked.ensures ∙ c.if-is_parked.true))
+    elim c.then-not-check.branch [
+      | then-not-check-via-then-not-check w ↦ stands-none (unsound-none b (sym c.check.ensures ∙ w.if-not-check.true))
+      | then-not-check-via-else-not-check+then-is_parked w ↦
+          let sound : sound_bytes b ≡ true = sym c.check.ensures ∙ w.if-not-check.false in
+          stands-none (sound_page b sound ∙ parked-none (state_of b) (sym w.is_parked.ensures ∙ w.if-is_parked.true))
+    ]
 
 pub slice_bounds-page_on-end : goal.slice_bounds-page_on-end
 slice_bounds-page_on-end c =

@@ -10,7 +10,7 @@ use Rattle.memory.proofs.SearchLaws.{rows-length}
 use Rattle.visits.proofs.SettledState.{length_none}
 use Rattle.uplink.proofs.SentState.{some-rows}
 use Rattle.page.specs.Page.{page_of}
-use Rattle.page.proofs.PutLaws.{stands, stands-none}
+use Rattle.page.proofs.PutLaws.{stands-none}
 use Rattle.page.proofs.page_on.Goals as goal
 
 rowless-none : (b : List ℕ) → (state_of b).parked ≡ false → row_count_at b ≡ 0 → page_of (state_of b) ≡ []
@@ -32,4 +32,4 @@ page_of-requires c =
     (c.requires.0, some-rows _ (λ e. c.if-row_count-eq0.false (c.row_count.ensures.0 ∙ e)), c.requires.1)
 
 pub returns : goal.returns
-returns c = stands c.page_of.ensures
+returns c = c.page_of.ensures

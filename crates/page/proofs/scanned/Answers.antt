@@ -25,17 +25,17 @@ module _ (p : Scan) (x : Chosen) where
 pub column_at-requires : goal.column_at-requires
 column_at-requires c =
     let T = c.requires in
-    (T.order-low, T.position_some c.if-chosen-ne0.true, T.position-low)
+    rw c.from.ensures (T.order-low, T.position_some c.if-chosen-ne0.true, T.position-low)
 
 pub returns-then-chosen-ne0 : goal.returns-then-chosen-ne0
 returns-then-chosen-ne0 c =
     let a = c.args in
-    taken a.scan a.chosen c.column_at.result c.if-chosen-ne0.true c.column_at.ensures.0
+    taken a.scan a.chosen c.column_at.result c.if-chosen-ne0.true (rw c.from.ensures at c.column_at.ensures.0)
 
 pub returns-then-scan-ne0 : goal.returns-then-scan-ne0
 returns-then-scan-ne0 c =
     let a = c.args in
-    noted a.scan a.chosen c.if-chosen-ne0.false c.if-scan-ne0.true
+    rw c.from-then-scan-ne0.ensures (noted a.scan a.chosen c.if-chosen-ne0.false c.if-scan-ne0.true)
 
 pub returns : goal.returns
 returns c =

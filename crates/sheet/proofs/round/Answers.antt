@@ -26,14 +26,14 @@ loop-position-init c = (omega arith, round-begin _ _ _ c.order_all-k.ensures)
 
 pub returns-in_err-at : goal.returns-in_err-at
 returns-in_err-at c =
-    let line = line-is c.args.weights.now c.rows.result.now c.lay-lines.result _ _ _ _ c.lay-lines.ensures c.column_at.ensures.0 (omega arith) c.rows.ensures in
+    let line = line-is c.args.weights.now c.rows.result.now _ _ _ _ _ c.lay.ensures c.column_at.ensures.0 (omega arith) c.rows.ensures in
     let p = err_from_is_err_and c.from_residual.result c.from_residual.ensures.1 in
     rw (p.1, p.2)
     (sym (sym c.loop-position.invariant.1 ∙ column_stops _ _ _ _ _ _ (omega arith) (omega (arith, whole c.order_all-k.result (omega arith))) line _ c.in_err-at.ensures.found))
 
 pub loop-position-preserved : goal.loop-position-preserved
 loop-position-preserved c =
-    let line = line-is c.args.weights.now c.rows.result.now c.lay-lines.result _ _ _ _ c.lay-lines.ensures c.column_at.ensures.0 (omega arith) c.rows.ensures in (
+    let line = line-is c.args.weights.now c.rows.result.now _ _ _ _ _ c.lay.ensures c.column_at.ensures.0 (omega arith) c.rows.ensures in (
       c.in_ok-at.ensures.within,
       sym (column-goes _ _ _ _ _ _ (omega arith) (omega (arith, whole c.order_all-k.result (omega arith))) line _ c.in_ok-at.ensures.found)
           ∙ c.loop-position.invariant.1,

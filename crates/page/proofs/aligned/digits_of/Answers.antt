@@ -1,23 +1,17 @@
--- Each turn takes one digit off what is left: the digits counted and those left are the number's, and one more.
-use native.Mathlib.Omega.{arith}
-use Rattle.text.proofs.DigitLaws.{digits-length-one, digits-length-more, digits-ten}
+-- The number is 0, or its tenth logarithm tells.
+use Rattle.std.proofs.Common.{Option, Some, None, ◌≡◌, ℕ, ◌+◌, ◌*◌, ◌^◌, ◌≤◌, ◌<◌, length, arith}
+use Rattle.std.specs.Option.{IfNone, IfSome, unwrap_or}
+use Rattle.text.specs.Digits.{digits}
+use Rattle.text.proofs.DigitLaws.{digits-length-one, digits-power}
 use Rattle.page.proofs.aligned.digits_of.Goals as goal
 
-pub loop-left-init : goal.loop-left-init
-loop-left-init c = (omega arith, digits-ten c.args.n (omega arith))
-
-pub overflow_add-count : goal.overflow_add-count
-overflow_add-count c = omega arith
-
-pub loop-left-smaller : goal.loop-left-smaller
-loop-left-smaller c = omega arith
-
-pub loop-left-preserved : goal.loop-left-preserved
-loop-left-preserved c =
-    let l = c.loop-left in
-    (omega (arith, l.invariant.0, digits-length-more l.left c.loop-left-test.true), l.invariant.1)
+counted : (o : Option ℕ) (n : ℕ) → IfNone o (n ≡ 0) → IfSome o (λ k. 10 ^ k ≤ n) → IfSome o (λ k. n < 10 * 10 ^ k) → IfSome o (λ k. k < 10)
+    → (unwrap_or o 0 + 1 ≡ length (digits n)) × (unwrap_or o 0 + 1 < 11)
+counted None n z l h b = (omega (arith, digits-length-one n (omega (arith, z))), omega arith)
+counted (Some k) n z l h b = (omega (arith, digits-power k n l h), omega arith)
 
 pub returns : goal.returns
 returns c =
-    let l = c.loop-left in
-    (omega (arith, l.invariant.0, digits-length-one l.left (omega arith)), omega (arith, l.invariant.0, l.invariant.1, digits-length-one l.left (omega arith)))
+    let L = c.checked_ilog10.ensures in
+    let e = c.unwrap_or.ensures in
+    rw e (counted _ c.args.n L.none L.power_le L.next_power_gt L.bound)

@@ -1,30 +1,20 @@
--- At each turn one space is put, and what is left of the gap is one shorter.
-use mathlib.Core.Path.{refl, ◌∙◌}
-use mathlib.Core.List.{[], ◌∷◌}
-use native.Mathlib.Omega.{arith}
-use Rattle.page.proofs.PutLaws.{begins, goes, ended, put, room_next, gap_length, gap-next, gap-none}
+-- At each turn the spaces passed are written.
+use Rattle.std.proofs.Common.{arith}
+use Rattle.octets.proofs.WroteLaws.{nothing_wrote, then_wrote, wrote_as}
+use Rattle.page.proofs.PutLaws.{gap_length, gap-next, gap_all, gap-none}
 use Rattle.page.proofs.aligned.put_gap.Goals as goal
 
-pub loop-taken-init : goal.loop-taken-init
-loop-taken-init c =
-    (refl, begins c.args.out.now c.args.at _ (omega (arith, c.requires)))
+pub loop-init : goal.loop-init
+loop-init c = record { wrote = wrote_as (gap-none c.args.n c.args.n (omega arith)) (nothing_wrote c.args.w.now (omega (arith, c.requires))); within = omega arith }
 
-pub put_byte-next-requires : goal.put_byte-next-requires
-put_byte-next-requires c =
-    let l = c.loop-taken in
-    let g = rw (gap-next c.args.width l.taken c.loop-taken-test.true) at l.invariant.1 in
-    omega (arith, room_next (32 ∷ []) _ g (omega (arith, gap_length c.args.width c.args.n, c.requires)))
+pub byte-requires : goal.byte-requires
+byte-requires c =
+    let W = c.loop.invariant.wrote in
+    omega (arith, W.written.place, W.same_length, gap_length c.loop.counter c.args.n, c.requires)
 
-pub loop-taken-preserved : goal.loop-taken-preserved
-loop-taken-preserved c =
-    let l = c.loop-taken in
-    let byte = c.put_byte-next in
-    let more = c.loop-taken-test.true in
-    let g = rw (gap-next c.args.width l.taken more) at l.invariant.1 in
-    let wide = room_next (32 ∷ []) _ g (omega (arith, gap_length c.args.width c.args.n, c.requires)) in
-    (byte.auto.out ∙ l.invariant.0, goes (32 ∷ []) _ g (put (32 ∷ []) byte.ensures.value byte.ensures.out_after wide))
+pub loop-preserved : goal.loop-preserved
+loop-preserved c =
+    record { wrote = wrote_as (gap-next c.loop.counter c.args.n (omega arith)) (then_wrote c.loop.invariant.wrote c.byte.ensures); within = omega (arith, c.loop-test.true) }
 
 pub returns : goal.returns
-returns c =
-    let l = c.loop-taken in
-    ended (rw (gap-none c.args.width l.taken c.loop-taken-test.false) at l.invariant.1)
+returns c = wrote_as (gap_all c.loop.counter c.args.width c.args.n (omega arith) c.loop.invariant.within) c.loop.invariant.wrote

@@ -1,41 +1,27 @@
--- At each turn the cell of the highest column that is left is put.
-use mathlib.Core.Path.{refl, ◌∙◌}
-use mathlib.Core.List.{List}
-use Prim.Native.Nat.{ℕ, ◌-◌}
-use native.Mathlib.Omega.{arith}
+-- At each turn the highest column that is left is written.
+use Rattle.std.proofs.Common.{List, ℕ, ◌-◌, arith}
 use Rattle.plain.specs.Matrix.{cell}
 use Rattle.page.specs.Page.{cell_text}
-use Rattle.page.proofs.PutLaws.{begins, goes, ended, room_next}
+use Rattle.page.proofs.PutLaws.{begins, room_next, goes, ended}
 use Rattle.page.proofs.PageLaws.{down-next, down-none}
 use Rattle.page.proofs.rows.put_cells.Goals as goal
 
--- a row's cell as it is put
-abbrev text : List ℕ → ℕ → ℕ → List ℕ
-text m r c = cell_text (cell m c r)
-
 pub loop-column-init : goal.loop-column-init
-loop-column-init c =
-    (refl, omega arith, begins c.args.out.now c.args.at _ (omega (arith, c.requires.3)))
+loop-column-init c = begins c.args.w.now _ (omega (arith, c.requires.2))
 
-pub put_cell-next-requires : goal.put_cell-next-requires
-put_cell-next-requires c =
+pub put_cell-requires : goal.put_cell-requires
+put_cell-requires c =
     let l = c.loop-column in
-    let f = text c.args.matrix.now c.args.row in
-    let g = rw (down-next f l.column c.loop-column-test.true) at l.invariant.2 in
-    room_next (f (l.column - 1)) _ g c.requires.3
+    let f : ℕ → List ℕ = λ k. cell_text (cell c.args.matrix.now k c.args.row) in
+    room_next (f (l.column - 1)) _ (rw (down-next f l.column (omega arith)) at l.invariant) c.requires.2
 
 pub loop-column-preserved : goal.loop-column-preserved
 loop-column-preserved c =
     let l = c.loop-column in
-    let put = c.put_cell-next in
-    let f = text c.args.matrix.now c.args.row in
-    let g = rw (down-next f l.column c.loop-column-test.true) at l.invariant.2 in
-    (put.auto.out ∙ l.invariant.0, omega (arith, l.invariant.1), goes (f (l.column - 1)) _ g (rw c.cell_at-place.ensures at put.ensures))
-
-pub shape_of-out : goal.shape_of-out
-shape_of-out c = c.loop-column.invariant.0
+    let f : ℕ → List ℕ = λ k. cell_text (cell c.args.matrix.now k c.args.row) in
+    goes (f (l.column - 1)) _ (rw (down-next f l.column (omega arith)) at l.invariant) c.put_cell.ensures
 
 pub returns : goal.returns
 returns c =
-    let l = c.loop-column in
-    ended (rw (down-none (text c.args.matrix.now c.args.row) l.column c.loop-column-test.false) at l.invariant.2)
+    let f : ℕ → List ℕ = λ k. cell_text (cell c.args.matrix.now k c.args.row) in
+    ended (rw (down-none f c.loop-column.column (omega arith)) at c.loop-column.invariant)

@@ -1,7 +1,5 @@
--- At each turn the line of one row is put; its cells of the filled matrix are its weight's bits.
-use mathlib.Core.Path.{◌≡◌}
-use Prim.Native.Nat.{◌-◌, ◌≤◌}
-use lib.ListN.{length, drop}
+-- At each turn the line of one row is written.
+use Rattle.std.proofs.Common.{drop}
 use Rattle.rules.specs.State.{weights}
 use Rattle.memory.specs.Reading.{state_of}
 use Rattle.page.specs.Page.{row_lines}
@@ -11,10 +9,5 @@ use Rattle.page.proofs.rows.put_rows.Given as goal
 
 abbrev pub invariant-loop-row : goal.invariant-loop-row
 invariant-loop-row l =
-    (length l.out ≡ length l.initial.out)
-    × (l.row ≤ l.count)
-    × Going l.initial.out l.at (row_lines (line_in (weights (state_of l.state).channels) l.chosen) (state_of l.state).rows)
-    (row_lines (line_in (weights (state_of l.state).channels) l.chosen) (drop l.row (state_of l.state).rows)) l.next l.out
-
-abbrev pub decreases-loop-row : goal.decreases-loop-row
-decreases-loop-row l = l.count - l.row
+    Going l.fn.w (row_lines (line_in (weights (state_of l.state).channels) l.chosen) (state_of l.state).rows)
+    (row_lines (line_in (weights (state_of l.state).channels) l.chosen) (drop l.row (state_of l.state).rows)) l.w

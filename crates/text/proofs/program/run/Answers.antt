@@ -32,5 +32,5 @@ returns c =
     let a = c.args in
     let text : List ℕ = take a.n a.input.now in
     let short : length text ≤ most = omega (arith, length-take-le a.n a.input.now c.requires.1, c.if-n-gt-MOST.false) in
-    let fresh = ap (λ x. x.bytes) c.start.ensures ∙ start-fresh _ refl in
+    let fresh = ap (λ x. x.bytes) (rw c.from.ensures at c.start.ensures) ∙ start-fresh _ refl in
     rw (lift-short text short) (rw fresh at c.answer_all.ensures)
