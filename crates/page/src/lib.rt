@@ -19,7 +19,7 @@ ghost use Rattle.page.specs.Page.{term_shown, row_lines, page_of, page_on, page_
 ghost use Rattle.page.specs.InNumbers.{line_in, scanned_in, head_in, Taken};
 
 use bits::trailing_of;
-use memory::layout::Base;
+use memory::layout::BASE;
 use memory::point::{Scan, is_parked, load_scan};
 use memory::rows::row_count;
 use octets::writer::Writer;
@@ -78,7 +78,7 @@ fn put_head(w: &mut Writer<'_>, scan: Scan, chosen: Chosen)
 }
 
 // The page of the base of a memory that takes calls and has rows, as what Next does on it. The rows' lines are from a matrix of their own.
-fn page_of(state: &Base, out: &mut [u8]) -> usize
+fn page_of(state: &[u8], out: &mut [u8]) -> usize
     requires { TakesSteps state.now × (is_empty (state_of state.now).rows ≡ false) × (page_room ≤ length out.old) }
     ensures { Stands (page_of (state_of state.now)) result out.new }
 {
@@ -98,11 +98,11 @@ pub fn page(state: &[u8], out: &mut [u8]) -> usize
     if !check(state) || is_parked(state) {
         return 0;
     }
-    page_on(state.first_chunk().unwrap(), out)
+    page_on(&state[..BASE], out)
 }
 
 // The page of the base of a memory that takes calls, and none where there are no rows.
-fn page_on(state: &Base, out: &mut [u8]) -> usize
+fn page_on(state: &[u8], out: &mut [u8]) -> usize
     requires { TakesSteps state.now × (page_room ≤ length out.old) }
     ensures { Stands (page_of (state_of state.now)) result out.new }
 {

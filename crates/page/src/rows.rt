@@ -13,7 +13,6 @@ ghost use Rattle.page.specs.InNumbers.{cells_at, mark_in, line_in};
 
 use super::aligned::put_aligned;
 use bits::in_mask;
-use memory::layout::Base;
 use memory::rows::row_count;
 use memory::search::{row_at, weight_of_row};
 use octets::writer::Writer;
@@ -82,7 +81,7 @@ fn put_row(
 }
 
 // The lines of all rows.
-pub fn put_rows(w: &mut Writer<'_>, state: &Base, matrix: &Matrix, chosen: Chosen)
+pub fn put_rows(w: &mut Writer<'_>, state: &[u8], matrix: &Matrix, chosen: Chosen)
     requires { RowsWithin state.now × MatrixOf state.now matrix.now × (chosen.order ≤ columns)
         × (w.old.at + length (row_lines (line_in (weights (state_of state.now).channels) chosen) (state_of state.now).rows) ≤ length w.old.out.now) }
     ensures { Wrote w.old (row_lines (line_in (weights (state_of state.now).channels) chosen) (state_of state.now).rows) w.new }

@@ -1,5 +1,4 @@
 -- No page where Next is refused; else that of the base of a memory that takes calls.
-use Rattle.std.proofs.Common.{rules}
 use mathlib.Core.Path.{◌≡◌, sym, ap, ◌∙◌}
 use mathlib.Core.Bool.{Bool, true, false, cond, ◌||◌}
 use mathlib.Core.List.{List, []}
@@ -11,7 +10,7 @@ use Rattle.rules.specs.Next.{choose_by}
 use Rattle.memory.specs.Memory.{sound_bytes}
 use Rattle.memory.specs.Reading.{state_of}
 use Rattle.memory.proofs.OneMemory.{memory-sound, base-stands}
-use Rattle.uplink.proofs.Lending.{base-takes}
+use Rattle.uplink.proofs.Lending.{base-takes, base-long}
 use Rattle.page.specs.Page.{page_by, page_of, page_on}
 use Rattle.page.proofs.PutLaws.{stands-none}
 use Rattle.page.proofs.page.Goals as goal
@@ -44,21 +43,21 @@ returns-then-not-check c =
           stands-none (sound_page b sound ∙ parked-none (state_of b) (sym w.is_parked.ensures ∙ w.if-is_parked.true))
     ]
 
-pub unwrap-requires : goal.unwrap-requires
-unwrap-requires c =
+pub slice_bounds-page_on-end : goal.slice_bounds-page_on-end
+slice_bounds-page_on-end c =
     let sound : sound_bytes c.args.state.now ≡ true = sym c.check.ensures ∙ c.if-not-check.false in
-    search (rules, (memory-sound c.args.state.now sound).size)
+    let unmarked : (state_of c.args.state.now).parked ≡ false = sym c.is_parked.ensures ∙ c.if-is_parked.false in
+    sym (base-long c.args.state.now (sound, unmarked))
 
 pub page_on-requires : goal.page_on-requires
 page_on-requires c =
     let sound : sound_bytes c.args.state.now ≡ true = sym c.check.ensures ∙ c.if-not-check.false in
     let unmarked : (state_of c.args.state.now).parked ≡ false = sym c.is_parked.ensures ∙ c.if-is_parked.false in
-    let front = rw c.unwrap.ensures at c.first_chunk.ensures.cases in
-    (rw (sym front.same) at (base-takes c.args.state.now (sound, unmarked)), c.requires)
+    (base-takes c.args.state.now (sound, unmarked), c.requires)
 
 pub returns : goal.returns
 returns c =
     let sound : sound_bytes c.args.state.now ≡ true = sym c.check.ensures ∙ c.if-not-check.false in
     let b = c.args.state.now in
-    let front = rw c.unwrap.ensures at c.first_chunk.ensures.cases in
-    rw (sound_page b sound, ← base-stands b sound) (rw front.same at c.page_on.ensures)
+    let e = sound in
+    rw (sound_page b e, ← base-stands b e) c.page_on.ensures

@@ -14,6 +14,9 @@ use Rattle.page.specs.InNumbers.{line_in, head_in, page_in}
 use Rattle.page.proofs.ChosenPage.{taken, page_same, page_fits}
 use Rattle.page.proofs.page_of.Goals as goal
 
+pub load_scan-scan-requires : goal.load_scan-scan-requires
+load_scan-scan-requires c = (base-sound _ c.requires.0.0).size
+
 pub choose-chosen-requires : goal.choose-chosen-requires
 choose-chosen-requires c =
     let m = base-sound c.args.state.now c.requires.0.0 in

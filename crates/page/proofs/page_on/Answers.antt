@@ -5,6 +5,7 @@ use mathlib.Core.List.{List, []}
 use Prim.Native.Nat.{ℕ}
 use Rattle.lists.specs.Tests.{is_empty}
 use Rattle.memory.specs.Reading.{row_count_at, state_of}
+use Rattle.memory.proofs.OneMemory.{base-sound}
 use Rattle.memory.proofs.SearchLaws.{rows-length}
 use Rattle.visits.proofs.SettledState.{length_none}
 use Rattle.uplink.proofs.SentState.{some-rows}
@@ -18,6 +19,9 @@ rowless-none b u e =
     let none : (state_of b).rows ≡ [] = length_none (state_of b).rows (rows-length b ∙ e) in
     let refuses : ((state_of b).parked || is_empty (state_of b).rows) ≡ true = rw (u, none) refl in
     rw refuses
+
+pub row_count-requires : goal.row_count-requires
+row_count-requires c = (base-sound c.args.state.now c.requires.0.0).size
 
 pub returns-then-row_count-eq0 : goal.returns-then-row_count-eq0
 returns-then-row_count-eq0 c =
