@@ -53,7 +53,7 @@ marks_test m p rows h = from_test (λ i. get_or m i 0) p 0 rows (λ j l. ap (λ 
 pub marks_mask : (m rows : List ℕ) (mask : ℕ) → ((j : ℕ) → j < length rows → get_or m j 0 ≡ bit (get_or rows j 0) mask) → marks_in m rows ≡ in_mask mask rows
 marks_mask m rows mask h = marks_test m (λ r. eqb (bit r mask) 1) rows (λ j l. ap (λ (v : ℕ). eqb v 1) (h j l))
 
-marks_column : (f : ℕ → ℕ) (rows : List ℕ) (x : List (List ℕ)) (n c : ℕ) → length rows ≡ n → Marked f rows n x → c < columns
+pub marks_column : (f : ℕ → ℕ) (rows : List ℕ) (x : List (List ℕ)) (n c : ℕ) → length rows ≡ n → Marked f rows n x → c < columns
     → marks_in (get_or x c []) rows ≡ column_of f rows c
 unfolding column_of
 marks_column f rows x n c count marked low =

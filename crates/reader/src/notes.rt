@@ -27,7 +27,8 @@ fn bytes_from(state: &Base, place: usize, count: usize) -> u16
     }
     let mut sum: u16 = 0;
     for i in 0..count {
-        sum = sum.wrapping_add(load_record(state, place + i).length);
+        let cell = load_record(state, place + i);
+        sum = sum.wrapping_add(cell.length);
     }
     sum
 }

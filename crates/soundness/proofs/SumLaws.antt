@@ -118,11 +118,7 @@ ended-turn b s x ends l e h i k =
     (λ r. rw r (get_or-set_same ends (s + 1) x 0 l ∙ e))
     (λ d. get_or-set_other ends (s + 1) i x 0 d ∙ h i (omega arith))
 
--- ---- wrapped sums and differences
-
-pub wrapped_difference : (d before behind : ℕ) → d < 65536 → before < 65536 → behind < 65536 → (d + before) % 65536 ≡ behind
-    → d ≡ (behind + (65536 - before)) % 65536
-wrapped_difference d before behind h k l e = omega arith
+-- ---- wrapped sums
 
 pub eight-turn : (f : ℕ → ℕ) (at k sum r : ℕ) → sum ≡ sum_of f at k % 65536 → r ≡ (sum + f (at + k)) % 65536 → r ≡ sum_of f at (k + 1) % 65536
 eight-turn f at k sum r e g =

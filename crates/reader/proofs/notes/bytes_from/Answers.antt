@@ -17,7 +17,7 @@ pub loop-i-preserved : goal.loop-i-preserved
 loop-i-preserved c =
     let a = c.args in
     let l = c.loop-i in
-    bytes-turn a.state.now a.place l.i l.sum _ l.invariant c.load_record-sum.ensures refl
+    bytes-turn a.state.now a.place l.i l.sum _ l.invariant c.load_record-cell.ensures refl
 
 pub returns : goal.returns
 returns c =
