@@ -1,5 +1,5 @@
 -- The way out is that the order fails. Past it the order is at most 12, so 2 to it can be taken; what is left is the other two rules.
-use Rattle.std.proofs.Common.{not, sym, ◌∙◌, rules}
+use Rattle.std.proofs.Common.{not, sym, ◌∙◌}
 use mathlib.Core.Bool.{and-true as and-with-true}
 use Rattle.memory.specs.Point.{over_at}
 use Rattle.soundness.specs.Check.{round_rule}

@@ -1,7 +1,6 @@
 -- Each number is written in its field, one after the other.
 use Prim.Native.Nat.{◌^◌, ◌<◌}
 use native.Mathlib.Omega.{arith}
-use lib.ListN.{length-set}
 use mathlib.Core.Path.{refl, ap}
 use Rattle.memory.specs.Names as the
 use Rattle.memory.specs.Layout.{width}

@@ -2,7 +2,6 @@
 use Prim.Native.Nat.{◌^◌, ◌<◌}
 use mathlib.Core.Path.{ap}
 use native.Mathlib.Omega.{arith}
-use lib.ListN.{length-set}
 use Rattle.bits.specs.Mask.{mask_of}
 use Rattle.rules.specs.State.{visit_number}
 use Rattle.memory.proofs.PointEdits.{scan_put, scan-put}

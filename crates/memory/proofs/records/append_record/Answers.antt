@@ -1,7 +1,5 @@
 -- The record goes into the cell where the run ends, and one more waits in its slot.
-use mathlib.Core.Path.{◌∙◌}
 use native.Mathlib.Omega.{arith}
-use lib.ListN.{length-set}
 use Rattle.memory.proofs.AppendLaws.{bytes_appended}
 use Rattle.memory.proofs.records.append_record.Goals as goal
 

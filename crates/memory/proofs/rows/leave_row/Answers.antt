@@ -1,7 +1,5 @@
 -- The rows behind the slot move up, and the number of rows is one lower.
 use native.Mathlib.Omega.{arith}
-use borrow.Author.Rules.{rules}
-use lib.ListN.{length-set}
 use Rattle.memory.proofs.RowEdits.{bytes-gone}
 use Rattle.memory.proofs.rows.leave_row.Goals as goal
 
