@@ -1,6 +1,5 @@
 -- The numbers of the head are read off the memory and laid together.
-use Rattle.std.proofs.Common.{rules, ap, arith}
-use Rattle.std.proofs.lemmas.List.Elements.{All-nil, All-cons}
+use Rattle.std.proofs.Common.{ap, arith}
 use Rattle.memory.specs.Reading.{state_of}
 use Rattle.image.specs.Parts.{laid}
 use Rattle.octets.proofs.WroteLaws.{wrote_as}
@@ -14,7 +13,7 @@ overflow_sub-size c =
 
 pub put_parts-requires : goal.put_parts-requires
 put_parts-requires c =
-    (search (rules, All-nil, All-cons), omega (arith, length-read c.args.state.now c.requires.0 c.args.version.number, c.requires.1, c.requires.2, c.wide.ensures))
+    omega (arith, length-read c.args.state.now c.requires.0 c.args.version.number, c.requires.1, c.requires.2, c.wide.ensures)
 
 pub returns : goal.returns
 unfolding state_of
