@@ -24,7 +24,7 @@ use Rattle.rules.specs.State.{weights, column_of}
 use Rattle.memory.specs.Reading.{row_count_at, in_mask, state_of}
 use Rattle.memory.proofs.SearchLaws.{rows-length}
 use Rattle.rules.specs.Next.{noted}
-use Rattle.plain.specs.Matrix.{Marked, MatrixOf}
+use Rattle.plain.specs.Matrix.{cell, Marked, MatrixOf}
 use Rattle.plain.specs.Marks.{marked_from, marked_rows, marks_in, first_mark}
 use Rattle.plain.proofs.MatrixLaws.{marked-at}
 
@@ -53,16 +53,18 @@ marks_test m p rows h = from_test (λ i. get_or m i 0) p 0 rows (λ j l. ap (λ 
 pub marks_mask : (m rows : List ℕ) (mask : ℕ) → ((j : ℕ) → j < length rows → get_or m j 0 ≡ bit (get_or rows j 0) mask) → marks_in m rows ≡ in_mask mask rows
 marks_mask m rows mask h = marks_test m (λ r. eqb (bit r mask) 1) rows (λ j l. ap (λ (v : ℕ). eqb v 1) (h j l))
 
-pub marks_column : (f : ℕ → ℕ) (rows : List ℕ) (x : List (List ℕ)) (n c : ℕ) → length rows ≡ n → Marked f rows n x → c < columns
-    → marks_in (get_or x c []) rows ≡ column_of f rows c
+pub marks_column : (f : ℕ → ℕ) (rows m : List ℕ) (x : List (List ℕ)) (n c : ℕ) → length rows ≡ n → Marked f rows n x → c < columns
+    → ((r : ℕ) → r < n → get_or m r 0 ≡ cell x c r) → marks_in m rows ≡ column_of f rows c
 unfolding column_of
-marks_column f rows x n c count marked low =
-    marks_test (get_or x c []) (λ r. eqb (bit c (f r)) 1) rows (λ j l. ap (λ (v : ℕ). eqb v 1) (marked-at f rows n x marked c j low (omega arith)))
+marks_column f rows m x n c count marked low h =
+    marks_test m (λ r. eqb (bit c (f r)) 1) rows
+    (λ j l. ap (λ (v : ℕ). eqb v 1) (h j (omega arith) ∙ marked-at f rows n x marked c j low (omega arith)))
 
 -- of a memory: a column of its matrix is its own marks
 pub column_marks : (b : List ℕ) (x : List (List ℕ)) {c : ℕ} → MatrixOf b x → c < columns
     → marks_in (get_or x c []) (state_of b).rows ≡ column_of (weights (state_of b).channels) (state_of b).rows c
-column_marks b x {c} matrix low = marks_column (weights (state_of b).channels) (state_of b).rows x (row_count_at b) c (rows-length b) matrix low
+column_marks b x {c} matrix low =
+    marks_column (weights (state_of b).channels) (state_of b).rows (get_or x c []) x (row_count_at b) c (rows-length b) matrix low (λ r l. refl)
 
 -- ---- one row after the other
 
