@@ -1,4 +1,5 @@
-// Start, Open, Close and Ask: neither the matrix nor the order is touched by them, so each is the linked engine's.
+// Start, Open, Close and Ask: neither the matrix nor the order is touched by them, so each is the linked engine's. (They stand here too:
+// SameAsUplink and docs/PROMISES say of plain's own functions that they do what the linked engine's do.)
 ghost use Rattle.std.specs.Prelude.{◌≡◌};
 ghost use Rattle.rules.specs.Calls.{open_call, close_call, ask_call};
 ghost use Rattle.memory.specs.Memory.{on, start_on};

@@ -39,7 +39,7 @@ pub struct Places {
     pub place: usize,
 }
 
-// Answers the line at a place of the text, and puts its line of output into `out` at `place`.
+// Answers the line at a place of the text, and puts its line of output into `out` at `place`. (Bytes and places side by side: docs/PROMISES names the contract.)
 pub fn answer_line(state: &mut [u8], text: &[u8], at: usize, out: &mut [u8], place: usize) -> Places
     requires { (at ≤ length text.now) × (place + widest ≤ length out.old) }
     ensures at_value { result.at ≡ line_after text.now at }

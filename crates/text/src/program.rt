@@ -37,7 +37,8 @@ fn answer_all(state: &mut [u8], text: &[u8], out: &mut [u8]) -> usize
 }
 
 // What is printed for the first n bytes of `input`: their lines answered from the fresh state on, or `? input`. There is room in `input` for one byte
-// more than is answered, so that a longer input shows. The output stands at the start of `out`; its length is the answer.
+// more than is answered, so that a longer input shows. The output stands at the start of `out`; its length is the answer. (Bytes and how many count, side by side: docs/PROMISES
+// names the contract.)
 pub fn run(input: &[u8], n: usize, out: &mut [u8]) -> usize
     requires { (most < length input.now) × (n ≤ length input.now) × (room_for most ≤ length out.old) }
     ensures { Stands (lift (take n input.now)) result out.new }
