@@ -20,17 +20,17 @@ ghost use Rattle.page.specs.InNumbers.{line_in, scanned_in, head_in, Taken};
 
 use bits::trailing_of;
 use memory::layout::Base;
-use memory::point::{Scan, is_parked, load_scan};
+use memory::point::{Scan, load_scan};
 use memory::rows::row_count;
 use octets::writer::Writer;
 use plain::choose::choose;
 use plain::matrix::filled;
 use rules::SLOTS;
-use soundness::check;
 use spread::COLUMNS;
 use spread::jump::column_at;
 use text::command::Command;
 use text::reader::line_at;
+use uplink::admitted::admitted;
 use visits::choose::Chosen;
 
 // Room for any page: two lines and one for each slot, none above 80 bytes and three a column.
@@ -95,7 +95,7 @@ pub fn page(state: &[u8], out: &mut [u8]) -> usize
     requires { page_room ≤ length out.old }
     ensures { Stands (page_on state.now) result out.new }
 {
-    if !check(state) || is_parked(state) {
+    if admitted(state).is_err() {
         return 0;
     }
     page_on(state.first_chunk().unwrap(), out)

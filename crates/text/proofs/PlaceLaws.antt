@@ -73,9 +73,6 @@ module _ (s : List ℕ) (i c d : ℕ) (within : true ≡ ltb i (length s)) (is :
 -- ---- The text is at its end.
 
 module _ (s : List ℕ) (i : ℕ) (past : false ≡ ltb i (length s)) where
-  pub zero-past : i ≤ length s → Some (0, i) ≡ placed (length s) (zero_off (drop i s))
-  zero-past h = placed-here s i 0 i refl h ∙ ap (placed (length s)) (sym (zero_off_stops (drop i s) (stops_end s i (ltb-false i (length s) (sym past)))))
-
   pub number_past : None ≡ decimal_at s i
   unfolding number_off
   number_past = rw (drop_of_length-le s (ltb-false i (length s) (sym past)))

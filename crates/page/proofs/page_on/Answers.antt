@@ -5,7 +5,6 @@ use mathlib.Core.List.{List, []}
 use Prim.Native.Nat.{ℕ}
 use Rattle.lists.specs.Tests.{is_empty}
 use Rattle.memory.specs.Reading.{row_count_at, state_of}
-use Rattle.memory.proofs.OneMemory.{base-sound}
 use Rattle.memory.proofs.SearchLaws.{rows-length}
 use Rattle.visits.proofs.SettledState.{length_none}
 use Rattle.uplink.proofs.SentState.{some-rows}
