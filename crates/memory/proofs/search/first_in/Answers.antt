@@ -62,17 +62,6 @@ in_mask-requires c = omega (arith, c.loop-row.invariant.2)
 pub overflow_add-i : goal.overflow_add-i
 overflow_add-i c = omega (arith, c.loop-row.invariant.0, c.requires.0.few)
 
-pub row_at-row-requires-in-loop-row : goal.row_at-row-requires-in-loop-row
-row_at-row-requires-in-loop-row c = (c.requires.0, omega (arith, next_there c.args.mask c.loop-row.row c.loop-row.i c.args.state.now c.loop-row.invariant.0 c.loop-row.invariant.1 c.requires.1 c.loop-row.invariant.3 (sym c.in_mask.ensures ∙ c.loop-row-test.true)))
-
-pub loop-row-smaller : goal.loop-row-smaller
-loop-row-smaller c = omega (arith, next_there c.args.mask c.loop-row.row c.loop-row.i c.args.state.now c.loop-row.invariant.0 c.loop-row.invariant.1 c.requires.1 c.loop-row.invariant.3 (sym c.in_mask.ensures ∙ c.loop-row-test.true))
-
-pub loop-row-preserved : goal.loop-row-preserved
-loop-row-preserved c =
-    let i = c.loop-row.i in
-    (omega (arith, next_there c.args.mask c.loop-row.row c.loop-row.i c.args.state.now c.loop-row.invariant.0 c.loop-row.invariant.1 c.requires.1 c.loop-row.invariant.3 (sym c.in_mask.ensures ∙ c.loop-row-test.true)), c.row_at-row-in-loop-row.ensures.0, c.row_at-row-in-loop-row.ensures.1, rw (add-one i) (passed c.args.mask c.loop-row.row c.loop-row.i c.args.state.now c.loop-row.invariant.0 c.loop-row.invariant.1 c.requires.1 c.loop-row.invariant.3 (sym c.in_mask.ensures ∙ c.loop-row-test.true)))
-
 pub returns : goal.returns
 returns c =
     let l = c.loop-row in
@@ -83,3 +72,14 @@ returns c =
     let has : test (get_or rows l.i 0) ≡ true = ap test (sym l.invariant.1) ∙ sym c.in_mask.ensures ∙ c.loop-row-test.false in
     let here = keep-drop_in test rows l.i (omega (arith, rows-length b, l.invariant.0)) has in
     l.invariant.1 ∙ sym (l.invariant.3 ∙ ap first_slot here)
+
+pub row_at-row-requires-in-loop-row : goal.row_at-row-requires-in-loop-row
+row_at-row-requires-in-loop-row c = (c.requires.0, omega (arith, next_there c.args.mask c.loop-row.row c.loop-row.i c.args.state.now c.loop-row.invariant.0 c.loop-row.invariant.1 c.requires.1 c.loop-row.invariant.3 (sym c.in_mask.ensures ∙ c.loop-row-test.true)))
+
+pub loop-row-smaller : goal.loop-row-smaller
+loop-row-smaller c = omega (arith, next_there c.args.mask c.loop-row.row c.loop-row.i c.args.state.now c.loop-row.invariant.0 c.loop-row.invariant.1 c.requires.1 c.loop-row.invariant.3 (sym c.in_mask.ensures ∙ c.loop-row-test.true))
+
+pub loop-row-preserved : goal.loop-row-preserved
+loop-row-preserved c =
+    let i = c.loop-row.i in
+    (omega (arith, next_there c.args.mask c.loop-row.row c.loop-row.i c.args.state.now c.loop-row.invariant.0 c.loop-row.invariant.1 c.requires.1 c.loop-row.invariant.3 (sym c.in_mask.ensures ∙ c.loop-row-test.true)), c.row_at-row-in-loop-row.ensures.0, c.row_at-row-in-loop-row.ensures.1, rw (add-one i) (passed c.args.mask c.loop-row.row c.loop-row.i c.args.state.now c.loop-row.invariant.0 c.loop-row.invariant.1 c.requires.1 c.loop-row.invariant.3 (sym c.in_mask.ensures ∙ c.loop-row-test.true)))
