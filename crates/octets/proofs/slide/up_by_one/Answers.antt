@@ -15,7 +15,7 @@ pub loop-k-preserved : goal.loop-k-preserved
 loop-k-preserved c =
     let a = c.args in
     let l = c.loop-k in
-    rw l.invariant (slid-up-turn a.i l.k a.n a.b.now c.loop-k-test.true l.auto.k c.requires)
+    rw l.invariant (slid-up-turn a.i l.k a.n a.b.now (omega (arith, c.loop-k-test.true)) l.auto.k c.requires)
 
 pub returns : goal.returns
 returns c =
