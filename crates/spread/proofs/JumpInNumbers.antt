@@ -10,13 +10,31 @@ use Rattle.bits.specs.Order.{order}
 use Rattle.bits.proofs.ShiftLaws.{shifted}
 use Rattle.spread.specs.Limits.{columns}
 use Rattle.spread.specs.Visits.{column_at}
-use Rattle.spread.specs.Jump.{multiple, jump}
+use Rattle.spread.specs.Jump.{multiple, jump, landing}
 
-multiple-shifted : (k s p : ℕ) → s ≤ k → k < 32 → p < 2 ^ k → multiple s p % 2 ^ 32 ≡ multiple s p
+pub multiple-shifted : (k s p : ℕ) → s ≤ k → k < 32 → p < 2 ^ k → multiple s p % 2 ^ 32 ≡ multiple s p
 multiple-shifted k s p l n h =
     let whole : k - s + s ≡ k = omega arith in
     let quotient : p / 2 ^ s < 2 ^ (k - s) = shr_lt (k - s) s (rw whole h) in
     shl_exact (suc (k - s)) s 32 (omega (arith, pow_pos (k - s))) (omega arith)
+
+-- ---- the three answers
+
+pub jump-none : (k u p : ℕ) → 2 ^ k ≤ multiple (k - order u) p → landing (jump k u p) ≡ 0
+unfolding jump
+jump-none k u p h = rw (le-ltb (multiple (k - order u) p) (2 ^ k) h)
+
+pub jump-first : (k u p : ℕ) → multiple (k - order u) p < 2 ^ k → bit (column_at k (multiple (k - order u) p)) u ≡ 1
+    → landing (jump k u p) ≡ multiple (k - order u) p
+unfolding jump
+jump-first k u p h e = rw (lt-ltb (multiple (k - order u) p) (2 ^ k) h, eq-eqb _ _ e)
+
+pub jump-second : (k u p : ℕ) → multiple (k - order u) p < 2 ^ k → (bit (column_at k (multiple (k - order u) p)) u ≡ 1 → ⊥)
+    → landing (jump k u p) ≡ multiple (k - order u) p + 2 ^ (k - order u)
+unfolding jump
+jump-second k u p h e = rw (lt-ltb (multiple (k - order u) p) (2 ^ k) h, ne_eqb _ _ e)
+
+-- ---- the same as the code has them
 
 -- k is the order, u the union, p the position, and b what the code holds as the order of the union
 module _ (k u p b : ℕ) (same : b ≡ order u) (fit : order u ≤ k) (low : k ≤ columns) (here : p < 2 ^ k) where
@@ -37,11 +55,9 @@ module _ (k u p b : ℕ) (same : b ≡ order u) (fit : order u ≤ k) (low : k �
   step : 1 * 2 ^ (k - b) % 2 ^ 32 ≡ 2 ^ (k - order u)
   step = rw same (shifted 32 (k - order u) (omega arith))
 
-  -- ---- the three answers
-
-  pub jump-none : 1 * 2 ^ k % 2 ^ 32 ≤ first → ◌≡◌ {A = Option ℕ} None (jump k u p)
+  pub jump-none-worked : 1 * 2 ^ k % 2 ^ 32 ≤ first → ◌≡◌ {A = Option ℕ} None (jump k u p)
   unfolding jump
-  jump-none h = let past : 2 ^ k ≤ candidate = omega (arith, whole, first_is) in rw (le-ltb candidate (2 ^ k) past) refl
+  jump-none-worked h = let past : 2 ^ k ≤ candidate = omega (arith, whole, first_is) in rw (le-ltb candidate (2 ^ k) past) refl
 
   -- the first candidate stands before 2 to the order, and c is its column
   module _ (h : first < 1 * 2 ^ k % 2 ^ 32) (c : ℕ) (at : c ≡ column_at k first) where
@@ -53,10 +69,10 @@ module _ (k u p b : ℕ) (same : b ≡ order u) (fit : order u ≤ k) (low : k �
     unfolding bit
     asked = ap (λ (x : ℕ). u / 2 ^ x % 2) (at ∙ ap (column_at k) first_is)
 
-    pub jump-first : u / 2 ^ c % 2 ≡ 1 → ◌≡◌ {A = Option ℕ} (Some first) (jump k u p)
+    pub jump-first-worked : u / 2 ^ c % 2 ≡ 1 → ◌≡◌ {A = Option ℕ} (Some first) (jump k u p)
     unfolding jump
-    jump-first e = rw (lt-ltb candidate (2 ^ k) before, eq-eqb _ _ (sym asked ∙ e)) (ap (λ (x : ℕ). Some x) first_is)
+    jump-first-worked e = rw (lt-ltb candidate (2 ^ k) before, eq-eqb _ _ (sym asked ∙ e)) (ap (λ (x : ℕ). Some x) first_is)
 
-    pub jump-second : (u / 2 ^ c % 2 ≡ 1 → ⊥) → ◌≡◌ {A = Option ℕ} (Some (first + 1 * 2 ^ (k - b) % 2 ^ 32)) (jump k u p)
+    pub jump-second-worked : (u / 2 ^ c % 2 ≡ 1 → ⊥) → ◌≡◌ {A = Option ℕ} (Some (first + 1 * 2 ^ (k - b) % 2 ^ 32)) (jump k u p)
     unfolding jump
-    jump-second e = rw (lt-ltb candidate (2 ^ k) before, ne_eqb _ _ (λ z. e (asked ∙ z)), step) (ap (λ (x : ℕ). Some (x + 2 ^ (k - order u))) first_is)
+    jump-second-worked e = rw (lt-ltb candidate (2 ^ k) before, ne_eqb _ _ (λ z. e (asked ∙ z)), step) (ap (λ (x : ℕ). Some (x + 2 ^ (k - order u))) first_is)

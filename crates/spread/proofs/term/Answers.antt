@@ -4,7 +4,7 @@ use native.Mathlib.Omega.{arith}
 use borrow.Author.Rules.{rules}
 use Rattle.bits.proofs.TrailingLaws.{trailing_lt}
 use Rattle.spread.proofs.Limits.{between}
-use Rattle.spread.proofs.Calls.{term-given}
+use Rattle.spread.proofs.Calls.{term-worked}
 use Rattle.spread.proofs.term.Goals as goal
 
 pub overflow_add-result : goal.overflow_add-result
@@ -14,4 +14,4 @@ overflow_add-result c =
 
 pub returns : goal.returns
 returns c =
-    term-given _ _ _ (sym c.outside.ensures ∙ c.if-outside.false) (sym c.outside-else-outside.ensures ∙ c.if-outside-2.false) c.trailing_of.ensures
+    term-worked _ _ _ (sym c.outside.ensures ∙ c.if-outside.false) (sym c.outside-else-outside.ensures ∙ c.if-outside-2.false) c.trailing_of.ensures
