@@ -1,5 +1,5 @@
 -- The notes after Put and after Next: right for the state that the call leaves.
-use Rattle.std.proofs.Common.{◌≡◌, ℕ, suc, ◌+◌, ◌-◌, ◌<◌, Bool, true, false, leb, List, ◌++◌, length, Ok, sym, refl, ap, ◌∙◌, arith, take-append-drop, eq-eqb, ne_eqb, leb-false, leb-true}
+use Rattle.std.proofs.Common.{◌≡◌, ℕ, suc, ◌+◌, ◌-◌, ◌<◌, Bool, true, false, leb, List, ◌++◌, length, Result, Ok, Err, sym, refl, ap, ◌∙◌, arith, take-append-drop, eq-eqb, ne_eqb, leb-false, leb-true}
 use Rattle.lists.proofs.SlotsLaws.{if_eq}
 use Rattle.answers.specs.Answer.{Refusal, refused, given}
 use Rattle.answers.proofs.Answers.{given_inj, refused-given}
@@ -29,7 +29,6 @@ use Rattle.uplink.specs.Holds.{TakesCalls}
 use Rattle.uplink.specs.PutSteps.{TakenFits, TakenNoted}
 use Rattle.uplink.specs.NextSteps.{SentFits, SentNoted}
 use Rattle.answers.specs.declared.Refusal.{Refusal as Refusing}
-use Rattle.answers.specs.Told.{refusal_told}
 use Rattle.uplink.specs.declared.Taken.{Taken as Answered}
 use Rattle.uplink.specs.declared.Sent.{Sent as Gone}
 
@@ -101,8 +100,8 @@ module _ (b : List ℕ) (T : TakesCalls b) (i t n q : ℕ) (fits : q < reference
   put-sound : (d : Done Taken) → put_call i t n q (state_of b) ≡ given d → Sound d.state
   put-sound d e = rw e at (put-kept i t n q (state_of b) fits Sb)
 
-  pub taken-fits : (a : Answered) (β : List ℕ) → leaving (put_told (Ok a)) β ≡ replied_base (base b) (put_call i t n q (state_of (base b))) → TakenFits (β ++ noted b) i n
-  taken-fits a β left =
+  pub taken-fits : (r : Result Answered Refusing) (β : List ℕ) → leaving (put_told r) β ≡ replied_base (base b) (put_call i t n q (state_of (base b))) → TakenFits (β ++ noted b) i n r
+  taken-fits (Ok a) β left =
       let L = leaves b T (put_call i t n q) left in
       let F = put_fills Sb i t n q L.says in
       let P = put-leaves {i = i} {t = t} {n = n} {r = q} Sb L.says in
@@ -110,18 +109,16 @@ module _ (b : List ℕ) (T : TakesCalls b) (i t n q : ℕ) (fits : q < reference
       let before = noted-before b T (put_call i t n q) left put-sound in
       let full = bytes-before b T (put_call i t n q) left put-sound i low in
       (record { bytes = bytes_in (state_of b).channels; right = before }, low, omega (arith, full, F.own, bytes_most (put-sound _ L.says) i))
+  taken-fits (Err x) β left = tt
 
-  pub put-noted-left : (a : Answered) (β b' : List ℕ) → leaving (put_told (Ok a)) β ≡ replied_base (base b) (put_call i t n q (state_of (base b))) → TakenNoted i n (β ++ noted b) b'
-      → leaving (put_told (Ok a)) b' ≡ replied b (put_call i t n q (state_of b))
-  put-noted-left a β b' left (notes, same) =
+  pub put-noted-left : (r : Result Answered Refusing) (β b' : List ℕ) → leaving (put_told r) β ≡ replied_base (base b) (put_call i t n q (state_of (base b))) → TakenNoted i n r (β ++ noted b) b'
+      → leaving (put_told r) b' ≡ replied b (put_call i t n q (state_of b))
+  put-noted-left (Ok a) β b' left (notes, same) =
       let L = leaves b T (put_call i t n q) left in
       let F = put_fills Sb i t n q L.says in
       let before = noted-before b T (put_call i t n q) left put-sound in
       noted-after b T (put_call i t n q) left put-sound i (bytes_in (state_of b).channels i + n) b' (notes (bytes_in (state_of b).channels) before) same F.own F.others
-
-  pub put-refused-left : (x : Refusing) (β : List ℕ) → leaving {A = Taken} (refused (refusal_told x)) β ≡ replied_base (base b) (put_call i t n q (state_of (base b)))
-      → leaving {A = Taken} (refused (refusal_told x)) (β ++ noted b) ≡ replied b (put_call i t n q (state_of b))
-  put-refused-left x β left = refused-whole b T (put_call i t n q) left
+  put-noted-left (Err x) β b' left same = rw same (refused-whole b T (put_call i t n q) left)
 
 -- ---- Next
 
@@ -145,23 +142,21 @@ module _ (b : List ℕ) (T : TakesCalls b) where
   next-sound : (d : Done Sent) → next_call (state_of b) ≡ given d → Sound d.state
   next-sound d e = rw e at (next-kept (state_of b) Sn)
 
-  pub sent-fits : (a : Gone) (β : List ℕ) → leaving (next_told (Ok a)) β ≡ replied_base (base b) (next_call (state_of (base b))) → SentFits (β ++ noted b) a
-  sent-fits a β left =
+  pub sent-fits : (r : Result Gone Refusing) (β : List ℕ) → leaving (next_told r) β ≡ replied_base (base b) (next_call (state_of (base b))) → SentFits (β ++ noted b) r
+  sent-fits (Ok a) β left =
       let L = leaves b T next_call left in
       let F = next_empties Sn L.says in
       let low : a.slot < slots = sent-slot Sn L.says in
       let before = noted-before b T next_call left next-sound in
       let full = bytes-before b T next_call left next-sound a.slot low in
       (record { bytes = bytes_in (state_of b).channels; right = before }, low, omega (arith, full, F.own))
+  sent-fits (Err x) β left = tt
 
-  pub next-noted-left : (a : Gone) (β b' : List ℕ) → leaving (next_told (Ok a)) β ≡ replied_base (base b) (next_call (state_of (base b))) → SentNoted a (β ++ noted b) b'
-      → leaving (next_told (Ok a)) b' ≡ replied b (next_call (state_of b))
-  next-noted-left a β b' left (notes, same) =
+  pub next-noted-left : (r : Result Gone Refusing) (β b' : List ℕ) → leaving (next_told r) β ≡ replied_base (base b) (next_call (state_of (base b))) → SentNoted r (β ++ noted b) b'
+      → leaving (next_told r) b' ≡ replied b (next_call (state_of b))
+  next-noted-left (Ok a) β b' left (notes, same) =
       let L = leaves b T next_call left in
       let F = next_empties Sn L.says in
       let before = noted-before b T next_call left next-sound in
       noted-after b T next_call left next-sound a.slot (bytes_in (state_of b).channels a.slot - a.length) b' (notes (bytes_in (state_of b).channels) before) same (omega (arith, F.own)) F.others
-
-  pub next-refused-left : (x : Refusing) (β : List ℕ) → leaving {A = Sent} (refused (refusal_told x)) β ≡ replied_base (base b) (next_call (state_of (base b)))
-      → leaving {A = Sent} (refused (refusal_told x)) (β ++ noted b) ≡ replied b (next_call (state_of b))
-  next-refused-left x β left = refused-whole b T next_call left
+  next-noted-left (Err x) β b' left same = rw same (refused-whole b T next_call left)

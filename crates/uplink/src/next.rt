@@ -47,16 +47,19 @@ fn next_noted<E: Engine>(state: &mut [u8]) -> Result<Sent, Refusal>
     requires { TakesCalls state.old }
     ensures { leaving (next_told result) state.new ≡ replied state.old (next_call (state_of state.old)) }
 {
-    let sent = next_in::<E>(state.first_chunk_mut().unwrap())?;
-    note_sent(state, sent);
-    Ok(sent)
+    let told = next_in::<E>(state.first_chunk_mut().unwrap());
+    note_sent(state, told);
+    told
 }
 
-// The notes after a send: the record's bytes are gone from its slot.
-pub fn note_sent(state: &mut [u8], sent: Sent)
-    requires { SentFits state.old sent }
-    ensures { SentNoted sent state.old state.new }
+// The notes after a send: the record's bytes are gone from its slot. A refusal leaves them.
+pub fn note_sent(state: &mut [u8], told: Result<Sent, Refusal>)
+    requires { SentFits state.old told }
+    ensures { SentNoted told state.old state.new }
 {
+    let Ok(sent) = told else {
+        return;
+    };
     shrink(state, sent.slot as usize, sent.length as u16);
 }
 
@@ -76,7 +79,7 @@ fn next_in<E: Engine>(state: &mut Base) -> Result<Sent, Refusal>
 }
 
 // The record of a slot has left, and the order is not worked out yet: it falls where a row left with the record, and is worked out afresh where a round is over.
-fn order_again<E: Engine>(state: &mut Base, slot: usize)
+pub fn order_again<E: Engine>(state: &mut Base, slot: usize)
     requires { Unordered state.old × (slot < slots) }
     ensures { state.new ≡ bytes_of (ordered slot (state_of state.old)) }
 {
