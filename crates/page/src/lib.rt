@@ -24,7 +24,7 @@ use memory::point::{Scan, load_scan};
 use memory::rows::row_count;
 use octets::writer::Writer;
 use plain::choose::choose;
-use plain::matrix::filled;
+use plain::matrix::{Matrix, fill};
 use rules::SLOTS;
 use spread::COLUMNS;
 use spread::jump::column_at;
@@ -86,7 +86,9 @@ fn page_of(state: &Base, out: &mut [u8]) -> usize
     let chosen = choose(state, scan);
     let mut w = Writer { out, at: 0 };
     put_head(&mut w, scan, chosen);
-    rows::put_rows(&mut w, state, &filled(state), chosen);
+    let mut matrix: Matrix = [[0; SLOTS]; COLUMNS as usize];
+    fill(state, &mut matrix);
+    rows::put_rows(&mut w, state, &matrix, chosen);
     w.at
 }
 

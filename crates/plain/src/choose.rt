@@ -12,25 +12,34 @@ ghost use Rattle.plain.specs.Marks.{marks_in, first_mark};
 ghost use Rattle.plain.specs.Places.{Begins, Finds, Starts};
 
 use super::list::{Marks, first_marked, marks_of, mask_of};
-use super::matrix::{Matrix, filled};
+use super::matrix::{Matrix, fill};
 use super::scan::{Place, column_found};
 use memory::layout::Base;
 use memory::point::{Scan, load_order};
 use memory::rows::row_count;
 use memory::search::row_at;
+use rules::SLOTS;
+use spread::COLUMNS;
 use terms::table::copied;
-use visits::choose::{Chosen, open_visit};
+use visits::choose::Chosen;
 
 // "If a visit is open, its slot is chosen. Else, if slots remain to visit, the first of them in row order starts a visit." Else terms are taken until there is one.
 pub fn choose(state: &Base, scan: Scan) -> Chosen
     requires { Chooses state.now scan }
     ensures { some result ≡ map in_chosen (chosen_of (state_of state.now)) }
 {
+    let order = load_order(state);
     if scan.visit != 0 {
-        return open_visit(state, scan);
+        return Chosen {
+            slot: usize::from(scan.visit) - 1,
+            started: 0,
+            terms: 0,
+            order,
+            scan,
+        };
     }
     let place = Place {
-        order: load_order(state),
+        order,
         position: scan.position,
         column: scan.column,
         terms: 0,
@@ -48,7 +57,8 @@ fn by_terms(state: &Base, start: Place) -> Chosen
     ensures { some result ≡ map in_chosen (chosen_of (state_of state.now)) }
 {
     let table = copied();
-    let matrix = filled(state);
+    let mut matrix: Matrix = [[0; SLOTS]; COLUMNS as usize];
+    fill(state, &mut matrix);
     let found = column_found(state, &matrix, &table, start);
     column_visited(state, &matrix, found)
 }

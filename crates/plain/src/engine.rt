@@ -3,8 +3,9 @@ ghost use Rattle.std.specs.Prelude.{◌≡◌};
 
 use super::choose::choose;
 use super::matrix::order_of_rows;
+use super::order::rise;
 use memory::layout::Base;
-use memory::point::{Scan, load_order, store_order};
+use memory::point::Scan;
 use uplink::engine::Engine;
 use visits::choose::Chosen;
 
@@ -20,9 +21,7 @@ impl Engine for ByHand {
         order_of_rows(state)
     }
 
-    // To that of the rows, the one that has joined among them.
     fn rise(state: &mut Base, _slot: usize) {
-        let order = load_order(state).max(order_of_rows(state) as u8);
-        store_order(state, order);
+        rise(state)
     }
 }

@@ -9,6 +9,7 @@ pub mod matrix; // matrix.rt: the matrix, filled and read
 pub mod list; // list.rt: the rows still to visit, a mark each
 pub mod scan; // scan.rt: one term after the other
 pub mod choose; // choose.rt: which slot sends next
+pub mod order; // order.rt: the order, found in the matrix
 pub mod engine; // engine.rt: what is worked out by hand
 pub mod next; // next.rt: Next
 pub mod put; // put.rt: Put

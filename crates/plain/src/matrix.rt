@@ -20,15 +20,23 @@ use spread::COLUMNS;
 pub type Matrix = [[u8; SLOTS]; COLUMNS as usize];
 
 // Each row's weight is written into its row of the matrix, in joining order.
+pub fn fill(state: &Base, matrix: &mut Matrix)
+    requires { RowsWithin state.now }
+    ensures { MatrixOf state.now matrix.new }
+{
+    for row in 0..row_count(state) {
+        let weight = weight_of_row(state, row);
+        fill_row(matrix, row, weight);
+    }
+}
+
+// A matrix of its own, filled. (Lend one to `fill` where it is kept beside other arrays: the copy takes stack.)
 pub fn filled(state: &Base) -> Matrix
     requires { RowsWithin state.now }
     ensures { MatrixOf state.now result }
 {
     let mut matrix: Matrix = [[0; SLOTS]; COLUMNS as usize];
-    for row in 0..row_count(state) {
-        let weight = weight_of_row(state, row);
-        fill_row(&mut matrix, row, weight);
-    }
+    fill(state, &mut matrix);
     matrix
 }
 

@@ -28,8 +28,8 @@ put_head-requires c =
     let x = c.choose-chosen.result in
     (taken C e, omega (arith, page_fits C e, length-append (head_in c.load_scan-scan.result x) (row_lines (line_in (weights s.channels) x) s.rows), c.requires.2))
 
-pub filled-requires : goal.filled-requires
-filled-requires c = rows_of (base-sound c.args.state.now c.requires.0.0)
+pub fill-requires : goal.fill-requires
+fill-requires c = rows_of (base-sound c.args.state.now c.requires.0.0)
 
 pub put_rows-requires : goal.put_rows-requires
 put_rows-requires c =
@@ -40,7 +40,7 @@ put_rows-requires c =
     let x = c.choose-chosen.result in
     let W = c.put_head.ensures in (
       rows_of m,
-      c.filled.ensures,
+      c.fill.ensures,
       (taken C e).order-low,
       omega (arith, page_fits C e, length-append (head_in c.load_scan-scan.result x) (row_lines (line_in (weights s.channels) x) s.rows), W.written.place, W.same_length, c.requires.2),
     )

@@ -4,7 +4,7 @@ use native.Mathlib.Numerals.{add-one}
 use Rattle.rules.specs.State.{weights}
 use Rattle.memory.specs.Reading.{state_of}
 use Rattle.plain.proofs.MatrixLaws.{marked-none, marked_turn}
-use Rattle.plain.proofs.matrix.filled.Goals as goal
+use Rattle.plain.proofs.matrix.fill.Goals as goal
 
 pub loop-row-init : goal.loop-row-init
 loop-row-init c = marked-none _ _ _
