@@ -6,8 +6,7 @@ ghost use Rattle.std.specs.Prelude.{◌≡◌, ◌≤◌, ◌<◌, length, take}
 ghost use Rattle.text.specs.Lines.{lines_of};
 ghost use Rattle.text.specs.Answers.{output, most, lift, room_for, Stands};
 
-use super::answer::answer;
-use super::reader::Reader;
+use super::answer::{Places, answer_line};
 use memory::layout::LENGTH;
 use octets::writer::Writer;
 use rules::FALLING;
@@ -28,12 +27,12 @@ fn answer_all(state: &mut [u8], text: &[u8], out: &mut [u8]) -> usize
     requires { room_for (length text.now) ≤ length out.old }
     ensures { Stands (output state.old (lines_of text.now)) result out.new }
 {
-    let mut reader = Reader::new(text);
-    let mut w = Writer { out, at: 0 };
-    while let Some(line) = reader.next_line() {
-        answer(state, line.command, &mut w);
+    let mut places = Places { at: 0, place: 0 };
+    // A while: each turn goes on behind a whole line, and a `for` has no place that a line moves.
+    while places.at < text.len() {
+        places = answer_line(state, text, places.at, out, places.place);
     }
-    w.at
+    places.place
 }
 
 // What is printed for the first n bytes of `input`: their lines answered from the fresh state on, or `? input`. There is room in `input` for one byte

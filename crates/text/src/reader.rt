@@ -3,7 +3,7 @@
 // Document 01: "The text is walked by a reader that holds the command text and its place." Each method is thin; the work is done by the functions of the
 // other files, on a slice and a place. `line_at` has plain parameters: whoever calls it sees no reader.
 ghost use Rattle.std.specs.Prelude.{◌≡◌, ◌≤◌, length};
-ghost use Rattle.text.specs.Reading.{Reads, Moves};
+ghost use Rattle.text.specs.Reading.{Reads};
 
 use super::command::{Line, line_from};
 
@@ -34,19 +34,6 @@ impl<'a> Reader<'a> {
         ensures { Reads self.entry.text.now self.entry.at result }
     {
         line_from(self.text, self.at)
-    }
-
-    // The line at the reader's place, which goes on behind it; none where the text is at its end.
-    pub fn next_line(&mut self) -> Option<Line>
-        requires { self.old.at ≤ length self.old.text.now }
-        ensures { Moves self.old result self.new }
-    {
-        if self.at >= self.text.len() {
-            return None;
-        }
-        let line = self.line();
-        self.at = line.next;
-        Some(line)
     }
 }
 
