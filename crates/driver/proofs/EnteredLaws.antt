@@ -7,7 +7,7 @@ use lib.ListN.{length}
 use Rattle.std.specs.Prelude.{Result, Ok, Err}
 use Rattle.answers.specs.Answer.{unsound, number_of, Answer, refused, given, number}
 use Rattle.answers.specs.declared.Refusal.{Refusal}
-use Rattle.answers.specs.Told.{refusal_told}
+use Rattle.answers.specs.Told.{refusal_told, answered}
 use Rattle.memory.specs.Memory.{Left}
 use Rattle.uplink.specs.Told.{leaving}
 use Rattle.image.specs.Parked.{Parked, parking}
@@ -35,6 +35,16 @@ module _ {A : Type 0} (n : ℕ) (bytes : A → List ℕ) (left : Left A) (state 
   unfolding entered
   entered-told view x refuses gives on e come =
       let (p, q) = comes_back n bytes _ view x refuses gives come in
+      rw (p, q, ← e, eq-eqb (length answer) n on)
+
+-- the same where what is shown stands another way: the code's answer y, shown by its numbers, is the rules' answer a, shown
+module _ {A U : Type 0} (n : ℕ) (bytes : A → List ℕ) (left : Left A) (state answer : List ℕ) where
+  pub entered-shown : {numbers : U → List ℕ} {r : ℕ} {s b : List ℕ} (a : Answer A) (y : Result U Refusal) → length answer ≡ n → leaving a s ≡ left → Comes n numbers y r b
+      → (number (answered y) ≡ number a) × (shown n (λ t. words (numbers t)) (answered y) ≡ shown n bytes a) → entry r s b ≡ entered n bytes left state answer
+  unfolding entered
+  entered-shown a y on e come same =
+      let p = come.number_is ∙ same.0 in
+      let q = come.bytes_are ∙ same.1 in
       rw (p, q, ← e, eq-eqb (length answer) n on)
 
 -- a call without an answer buffer

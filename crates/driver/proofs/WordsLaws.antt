@@ -1,6 +1,6 @@
 -- The bytes of a number as the library has them, and fields written one after the other as the words of their list.
 use Prim.Native.Nat.{ℕ, zero, suc, ◌+◌, ◌*◌, ◌/◌, ◌%◌, ◌^◌, ◌<◌}
-use mathlib.Core.Path.{◌≡◌, refl, sym}
+use mathlib.Core.Path.{◌≡◌, refl, sym, ap, ◌∙◌}
 use mathlib.Core.List.{List, [], ◌∷◌, ◌++◌, append_assoc, append-nil}
 use native.Mathlib.Omega.{arith}
 use native.Mathlib.Numerals.{add-one}
@@ -50,6 +50,10 @@ halves v = simp (low_byte v 0 (lit< tt), low_byte v 1 (lit< tt), low_byte v 2 (l
 pub twos_bits : (z : ℤ) → cast_unsigned w64 z ≡ twos z
 twos_bits (pos n) = refl
 twos_bits (negsuc n) = refl
+
+-- the two halves' words are the bytes of the number in two's complement
+pub lead-words : (z : ℤ) → words (cast_unsigned w64 z % 2 ^ 32 ∷ cast_unsigned w64 z / 2 ^ 32 ∷ []) ≡ low_first 8 (twos z)
+lead-words z = halves _ ∙ ap (low_first 8) (twos_bits z)
 
 -- the words of one field more
 pub words-next : (vs : List ℕ) (i : ℕ) → i < length vs → words (take (i + 1) vs) ≡ words (take i vs) ++ to_le_bytes w32 (get_or vs i 0)

@@ -16,4 +16,4 @@ loop-i-preserved c =
     let end : 4 * (l.i + 1) ≡ 4 * l.i + length c.copy_from_slice.new.self = omega arith in
     let room : 4 * l.i ≤ length l.answer = omega arith in
     let here : l.i < length c.args.fields.now = omega arith in
-    rw (take-put_mid (4 * l.i) _ l.answer c.copy_from_slice.new.self _ end room, l.invariant, words-next c.args.fields.now l.i here, c.copy_from_slice.ensures.after, c.to_le_bytes.ensures)
+    rw (take-put_mid (4 * l.i) _ l.answer c.copy_from_slice.new.self _ end room, l.invariant, words-next c.args.fields.now l.i here, c.copy_from_slice.ensures.after, c.to_le_bytes.ensures) (grind arith)
