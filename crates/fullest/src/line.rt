@@ -41,18 +41,18 @@ impl Line {
         }
     }
 
-    // The n listed slots but one, in their order.
-    pub fn without(state: &Memory, n: usize, slot: usize) -> Line
+    // Becomes the n listed slots but one, in their order, whatever it was: a line is lent and never moved, since a move right after its bytes were written one by one
+    // waits for them.
+    pub fn without(&mut self, state: &Memory, n: usize, slot: usize)
         requires { n ≤ listed }
-        ensures { (length result ≤ n) × (result ≡ without slot (slots_from state.now 0 n)) }
+        ensures { (length self.new ≤ n) × (self.new ≡ without slot (slots_from state.now 0 n)) }
     {
-        let mut line = Line::new();
+        *self = Line::new();
         for &t in &state[FULLEST..FULLEST + n] {
             if usize::from(t) != slot {
-                line.push(t);
+                self.push(t);
             }
         }
-        line
     }
 
     // How many slots are listed.

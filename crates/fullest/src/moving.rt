@@ -23,24 +23,23 @@ fn next_key(state: &Memory, n: usize, x: u32, limit: u32) -> u32
     }
 }
 
-// The list after the bytes of one slot changed, from the n slots listed before. A look at all slots is needed only where five were listed and the slot fell behind
-// the other four.
-pub fn move_one(state: &Memory, n: usize, slot: usize) -> Line
+// The line becomes the list after the bytes of one slot changed, from the n slots listed before. A look at all slots is needed only where five were listed and the
+// slot fell behind the other four.
+pub fn move_one(state: &Memory, n: usize, slot: usize, line: &mut Line)
     requires { (n ≤ listed) × (slot < slots) × Movable (bytes_at state.now) slot (slots_from state.now 0 n) }
-    ensures { (length result ≤ listed) × (result ≡ moved (bytes_at state.now) slot (slots_from state.now 0 n)) }
+    ensures { (length line.new ≤ listed) × (line.new ≡ moved (bytes_at state.now) slot (slots_from state.now 0 n)) }
 {
-    let mut line = Line::without(state, n, slot);
+    line.without(state, n, slot);
     let x = key_at(state, slot);
     let least = line.least(state);
     if least < x {
         line.put_in(state, slot as u8);
         line.cut();
-        return line;
+        return;
     }
     if line.len() == LISTED {
-        return line;
+        return;
     }
     let y = next_key(state, n, x, least);
     line.push_key(y);
-    line
 }

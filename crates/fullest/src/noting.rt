@@ -7,6 +7,7 @@ ghost use Rattle.memory.specs.Reading.{bytes_at};
 ghost use Rattle.fullest.specs.Noted.{NotedBy, Noted, now_in};
 
 use super::keys::two;
+use super::line::Line;
 use super::moving::move_one;
 use memory::layout::{BYTES, LISTED_COUNT};
 use octets::low_first::write;
@@ -28,7 +29,8 @@ pub fn note(state: &mut [u8], slot: usize, bytes: u16)
 {
     write(state, BYTES + slot, SLOTS, bytes);
     let n = usize::from(state[LISTED_COUNT]);
-    let line = move_one(state.first_chunk().unwrap(), n, slot);
+    let mut line = Line::new();
+    move_one(state.first_chunk().unwrap(), n, slot, &mut line);
     line.store(state);
 }
 

@@ -15,8 +15,8 @@ loop-t-preserved c =
     let here : c.from.result ≡ slot_at c.args.state.now c.loop-t.t-index = c.from.ensures ∙ get_or-take _ _ c.loop-t.t-index 0 (omega arith) ∙ get_or-drop _ c.args.state.now c.loop-t.t-index 0 in
     elim c.if-from-slot.branch [
       | then-from-slot w ↦
-          out-kept c.args.state.now c.loop-t.line c.args.slot c.loop-t.t-index c.from.result few so-far here c.if-from-slot.line w.if-from-slot.true
-          (w.line-is ∙ w.push.ensures ∙ ap (λ (t : ℕ). c.loop-t.line ++ (t ∷ [])) (sym c.from.ensures))
+          out-kept c.args.state.now c.loop-t.self c.args.slot c.loop-t.t-index c.from.result few so-far here c.if-from-slot.self w.if-from-slot.true
+          (w.self-is ∙ w.push.ensures ∙ ap (λ (t : ℕ). c.loop-t.self ++ (t ∷ [])) (sym c.from.ensures))
       | else-from-slot w ↦
-          out-left c.args.state.now c.loop-t.line c.args.slot c.loop-t.t-index c.from.result few so-far here c.if-from-slot.line w.if-from-slot.false w.line-is
+          out-left c.args.state.now c.loop-t.self c.args.slot c.loop-t.t-index c.from.result few so-far here c.if-from-slot.self w.if-from-slot.false w.self-is
     ]

@@ -7,4 +7,4 @@ use Rattle.fullest.specs.Moved.{without}
 use Rattle.fullest.proofs.line.Line.without.Given as goal
 
 abbrev pub invariant-loop-t : goal.invariant-loop-t
-invariant-loop-t l = (length l.line ≤ l.t-index) × (l.line ≡ without l.slot (slots_from l.state 0 l.t-index))
+invariant-loop-t l = (length l.self ≤ l.t-index) × (l.self ≡ without l.slot (slots_from l.state 0 l.t-index))
