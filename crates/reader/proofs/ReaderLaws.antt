@@ -17,6 +17,14 @@ use Rattle.image.specs.Parked.{leaving, read_on}
 use Rattle.reader.specs.Received.{Received}
 use Rattle.image.proofs.Images.{Image, image-version, image_reads, no_image}
 
+-- lists of two lengths are not the same
+pub other_length : (a b : List ℕ) → (length a ≡ length b → ⊥) → false ≡ same a b
+other_length a b h = go (same a b) refl
+  where
+    go : (t : Bool) → same a b ≡ t → false ≡ t
+    go true e = absurd (h (ap length (same_true a b e)))
+    go false e = refl
+
 -- ---- good and bad images
 
 module _ (image : List ℕ) (v : ℕ) (version : v ≡ get_or image 0 0) where

@@ -18,7 +18,7 @@ ghost use Rattle.image.specs.Parts.{laid, numbers_of};
 ghost use Rattle.image.specs.Image.{record_parts, records_bytes, slot_parts, entry, entries, scan_parts, image_of};
 ghost use Rattle.reader.specs.Decoding.{Reached, NoneBehind, with_channels, farthest};
 
-use super::taking::{take_bytes, take_parts};
+use super::taking::{take_bytes, take_numbers};
 use image::version::Version;
 use memory::heads::{Head, store_head, waiting_of};
 use memory::layout::{Base, CELLS, EDITION, Position, Weight};
@@ -34,7 +34,7 @@ fn read_record<'a>(memory: &mut Base, image: &'a [u8], slot: usize, place: usize
         → Reached image.now (laid (record_parts x) ++ rest) memory.old s
         → Reached result.now rest memory.new (record_added s slot x) }
 {
-    let ([length, reference], left) = take_parts(image, [2, 4]);
+    let ([length, reference], left) = take_numbers(image, [2, 4]);
     let length = u16::try_from(length).unwrap_or(0);
     let reference = u32::try_from(reference).unwrap_or(0);
     if waiting_of(memory, slot) < ROOM {
@@ -92,7 +92,7 @@ fn read_slot<'a>(
         → Reached result.now rest memory.new (with_channel s slot c) }
 {
     let wide = version.wide();
-    let (numbers, left) = take_parts(image, [version.length_width(), 1, 4, wide, 2, 2, 1]);
+    let (numbers, left) = take_numbers(image, [version.length_width(), 1, 4, wide, 2, 2, 1]);
     store_head(memory, slot, head_in(numbers));
     let count = u8::try_from(numbers[6]).unwrap_or(0);
     read_records(memory, left, slot, place, count)
@@ -152,7 +152,7 @@ pub fn decode(memory: &mut Base, image: &[u8], version: Version)
     ensures built { (s : State) → Sound s → s.parked ≡ false → image.now ≡ image_of version.number s → memory.new ≡ bytes_of s }
     ensures same_length { length memory.new ≡ base_length }
 {
-    let (numbers, left) = take_parts(image, [1, 4, 1, 1, version.wide(), 1, 8, 1, 1]);
+    let (numbers, left) = take_numbers(image, [1, 4, 1, 1, version.wide(), 1, 8, 1, 1]);
     let count = u8::try_from(numbers[8]).unwrap_or(0);
     let (rows, entries) = take_bytes(left, usize::from(count));
     memory[EDITION] = u8::try_from(numbers[2]).unwrap_or(0);

@@ -35,6 +35,9 @@ fn is_image(memory: &Base, image: &[u8], version: Version) -> bool
     ensures { result ≡ same (image_of version.number (state_of memory.now)) image.now }
 {
     let size = length_of(memory, version);
+    if size != image.len() {
+        return false;
+    }
     let mut again: [u8; LONGEST] = [0; LONGEST];
     put_image(&mut again, memory, version, size);
     &again[..size] == image

@@ -1,6 +1,6 @@
 // Numbers and bytes taken from the front of any bytes: past the last one 0 is read, so that no reading fails. Each function answers what it took, and the
 // bytes behind it.
-ghost use Rattle.std.specs.Prelude.{◌≡◌, ◌≤◌, length, take, drop, slice_index};
+ghost use Rattle.std.specs.Prelude.{◌≡◌, ℕ, ◌≤◌, length, take, drop, slice_index};
 ghost use Rattle.std.specs.List.{All};
 ghost use Rattle.image.specs.Parts.{as_number, span, numbers_in};
 
@@ -43,17 +43,26 @@ pub fn take_number(image: &[u8], width: usize) -> (u64, &[u8])
     (number_of(&padded[..width]), &image[image.len()..])
 }
 
-// The numbers of parts of these widths.
-pub fn take_parts<const N: usize>(image: &[u8], widths: [usize; N]) -> ([u64; N], &[u8])
-    requires { All (λ w. w ≤ 8) widths }
-    ensures { (result.0 ≡ numbers_in widths.entry image.now) × (result.1.now ≡ drop (span widths.entry) image.now) }
+// The numbers of parts of these widths, of any number of them; answers the bytes behind them alone.
+pub fn take_parts<'a>(image: &'a [u8], widths: &[usize], numbers: &mut [u64]) -> &'a [u8]
+    requires { (length widths.now ≡ length numbers.old) × ((i : ℕ) → slice_index widths.now i ≤ 8) }
+    ensures { (numbers.new ≡ numbers_in widths.now image.now) × (result.now ≡ drop (span widths.now) image.now) }
 {
-    let mut numbers = [0; N];
     let mut left = image;
-    for i in 0..N {
+    for i in 0..widths.len() {
         let (number, behind) = take_number(left, widths[i]);
         numbers[i] = number;
         left = behind;
     }
+    left
+}
+
+// The same as an array, for a caller that takes it apart.
+pub fn take_numbers<const N: usize>(image: &[u8], widths: [usize; N]) -> ([u64; N], &[u8])
+    requires { All (λ w. w ≤ 8) widths }
+    ensures { (result.0 ≡ numbers_in widths.entry image.now) × (result.1.now ≡ drop (span widths.entry) image.now) }
+{
+    let mut numbers = [0; N];
+    let left = take_parts(image, &widths, &mut numbers);
     (numbers, left)
 }
