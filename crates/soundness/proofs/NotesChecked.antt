@@ -156,7 +156,7 @@ module _ (b : List ℕ) (fits : Bytes b) (size : length b ≡ memory_length) whe
       ∙ ap (λ (t : Bool). t && (sums_rule b && fullest_rule b)) (sym (check_is-sound (base b) fits-base))
       ∙ rw (eq-eqb (length (base b)) base_length (length-base b (omega arith))) refl
 
-  slots-wrong : (heads_rule (base b) && pool_rule (base b)) ≡ false → false ≡ sound_bytes b
+  pub slots-wrong : (heads_rule (base b) && pool_rule (base b)) ≡ false → false ≡ sound_bytes b
   slots-wrong e = sym (asked ∙ go (heads_rule (base b)) (pool_rule (base b)) _ _ e)
     where
       go : (h p x y : Bool) → (h && p) ≡ false → ((h && (p && x)) && y) ≡ false
@@ -174,7 +174,7 @@ module _ (b : List ℕ) (fits : Bytes b) (size : length b ≡ memory_length) whe
         room = λ i l. rw (← waiting-base b (omega arith) i l) (heads-at (base b) heads i l).few;
       }
 
-  slots-right : (heads_rule (base b) && pool_rule (base b)) ≡ true
+  pub slots-right : (heads_rule (base b) && pool_rule (base b)) ≡ true
       → ((lengths_rule b (first_at b slots) && sums_rule b) && (rest_rule (base b) && fullest_rule b)) ≡ sound_bytes b
   unfolding cells_rule rest_rule
   slots-right e =

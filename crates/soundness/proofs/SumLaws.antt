@@ -135,6 +135,11 @@ size-most b total p e l =
     leb-true (length_at b p) 1014 (and-true (leb 1 (length_at b p)) (leb (length_at b p) 1014) (all-at total (λ p. length_rule (length_at b p)) e p l)).1
 
 module _ (b : List ℕ) (total : ℕ) (h : Counted b total) where
+  -- where records are left, so are slots
+  pub slots-left : (s at : ℕ) → s ≤ 64 → at ≡ first_at b s → at < total → s < 64
+  slots-left s at l e less =
+      if_eq s 64 (λ q. absurd (let end : at ≡ first_at b 64 = e ∙ ap (first_at b) q in omega (arith, h.all))) (λ d. omega arith)
+
   -- the place of the next slot's first record
   pub first_next : (s at w : ℕ) → s < 64 → at ≡ first_at b s → w ≡ waiting_at b s → (at + w ≡ first_at b (s + 1)) × (at + w ≤ total)
   first_next s at w l e g =

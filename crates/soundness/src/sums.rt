@@ -13,6 +13,7 @@ ghost use Rattle.soundness.specs.Check.{all_below, lengths_rule};
 ghost use Rattle.soundness.specs.Notes.{length_at, sum_of, sums_rule, idle_rule, between_rule, Strided, Ended, Counted};
 
 use super::lines::{every, length_ok};
+use super::{base_of, total_of};
 use fullest::keys::two;
 use memory::layout::{BYTES, CELLS, Memory, RECORD_LENGTH, WAITING};
 use rules::SLOTS;
@@ -144,10 +145,11 @@ fn many_ok(state: &Memory, total: usize) -> bool
 }
 
 // The same of all records there are.
-pub fn sums(state: &Memory, total: usize) -> bool
-    requires { Counted state.now total }
-    ensures { result ≡ (lengths_rule state.now total && sums_rule state.now) }
+pub fn sums(state: &Memory) -> bool
+    requires { Counted state.now (first_at state.now slots) }
+    ensures { result ≡ (lengths_rule state.now (first_at state.now slots) && sums_rule state.now) }
 {
+    let total = usize::from(total_of(base_of(state)));
     if total <= FEW {
         return few_ok(state, total);
     }

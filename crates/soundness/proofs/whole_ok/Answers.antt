@@ -14,16 +14,14 @@ returns-else-slots_ok c =
 pub sums-requires : goal.sums-requires
 sums-requires c =
     let b = c.args.state.now in
-    let total : c.from-total.result ≡ first_at b slots = total-read b _ c.told-state c.base_of-base.ensures (c.from-total.ensures ∙ c.total_of.ensures) in
     let slots-pass = sym (rw c.base_of-base.ensures at c.slots_ok.ensures) ∙ c.if-slots_ok.true in
-    rw total (counted b c.fits-state c.told-state slots-pass)
+    counted b c.fits-state c.told-state slots-pass
 
 pub returns-else-sums : goal.returns-else-sums
 returns-else-sums c =
     let b = c.args.state.now in
-    let total : c.from-total.result ≡ first_at b slots = total-read b _ c.told-state c.base_of-base.ensures (c.from-total.ensures ∙ c.total_of.ensures) in
     let slots-pass = sym (rw c.base_of-base.ensures at c.slots_ok.ensures) ∙ c.if-slots_ok.true in
-    c.if-sums.false ∙ rw (slots-pass, sym (rw total at c.sums.ensures) ∙ c.if-sums.false) at (parts b c.fits-state c.told-state)
+    c.if-sums.false ∙ rw (slots-pass, sym c.sums.ensures ∙ c.if-sums.false) at (parts b c.fits-state c.told-state)
 
 pub rest_ok-requires : goal.rest_ok-requires
 rest_ok-requires c =
@@ -35,15 +33,13 @@ rest_ok-requires c =
 pub returns-else-rest_ok : goal.returns-else-rest_ok
 returns-else-rest_ok c =
     let b = c.args.state.now in
-    let total : c.from-total.result ≡ first_at b slots = total-read b _ c.told-state c.base_of-base.ensures (c.from-total.ensures ∙ c.total_of.ensures) in
     let slots-pass = sym (rw c.base_of-base.ensures at c.slots_ok.ensures) ∙ c.if-slots_ok.true in
     let rest-fail = sym (rw c.base_of-base.ensures at c.rest_ok.ensures) ∙ c.if-rest_ok.false in
-    c.if-rest_ok.false ∙ rw (slots-pass, sym (rw total at c.sums.ensures) ∙ c.if-sums.true, rest-fail) at (parts b c.fits-state c.told-state)
+    c.if-rest_ok.false ∙ rw (slots-pass, sym c.sums.ensures ∙ c.if-sums.true, rest-fail) at (parts b c.fits-state c.told-state)
 
 pub returns-then-rest_ok : goal.returns-then-rest_ok
 returns-then-rest_ok c =
     let b = c.args.state.now in
-    let total : c.from-total.result ≡ first_at b slots = total-read b _ c.told-state c.base_of-base.ensures (c.from-total.ensures ∙ c.total_of.ensures) in
     let slots-pass = sym (rw c.base_of-base.ensures at c.slots_ok.ensures) ∙ c.if-slots_ok.true in
     let rest-pass = sym (rw c.base_of-base.ensures at c.rest_ok.ensures) ∙ c.if-rest_ok.true in
-    c.fullest_ok.ensures ∙ rw (slots-pass, sym (rw total at c.sums.ensures) ∙ c.if-sums.true, rest-pass) at (parts b c.fits-state c.told-state)
+    c.fullest_ok.ensures ∙ rw (slots-pass, sym c.sums.ensures ∙ c.if-sums.true, rest-pass) at (parts b c.fits-state c.told-state)
