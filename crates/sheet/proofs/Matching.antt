@@ -1,5 +1,5 @@
 -- Holding a list against wanted rows goes part by part, and from the first place on gives what the sheet says.
-use Prim.Native.Nat.{ℕ, suc, ◌+◌, ◌≤◌, ◌<◌}
+use Prim.Native.Nat.{ℕ, suc, ◌≤◌, ◌<◌}
 use mathlib.Core.Path.{◌≡◌, refl, ◌∙◌}
 use mathlib.Core.Bool.{Bool, true, false, cond}
 use mathlib.Core.List.{List, [], ◌∷◌, ◌++◌}
@@ -40,28 +40,23 @@ module _ (rows : List ℕ) where
 
 -- ---- one place
 
-module _ (rows line : List ℕ) (start i : ℕ) where
+module _ (rows line : List ℕ) (at i : ℕ) (more : i < length line) where
   -- the list has ended there, or another row stands there, or the one wanted
-  pub place-ended : i < length line → length rows ≡ start + i → matched rows (start + i) (drop i line) ≡ Err (length rows)
+  pub place-ended : length rows ≤ at → matched rows at (drop i line) ≡ Err at
   unfolding matched
-  place-ended more e = rw (drop-cons line i 0 more, le-ltb (start + i) (length rows) (omega arith), e) refl
+  place-ended l = rw (drop-cons line i 0 more, le-ltb at (length rows) l) refl
 
-  pub place_other : i < length line → start + i < length rows → (get_or rows (start + i) 0 ≡ get_or line i 0 → ⊥)
-      → matched rows (start + i) (drop i line) ≡ Err (start + i)
+  pub place_other : at < length rows → (get_or rows at 0 ≡ get_or line i 0 → ⊥) → matched rows at (drop i line) ≡ Err at
   unfolding matched
-  place_other more l n = rw (drop-cons line i 0 more, lt-ltb (start + i) (length rows) l, ne_eqb (get_or rows (start + i) 0) (get_or line i 0) n) refl
+  place_other l n = rw (drop-cons line i 0 more, lt-ltb at (length rows) l, ne_eqb (get_or rows at 0) (get_or line i 0) n) refl
 
-  pub place_found : i < length line → start + i < length rows → get_or rows (start + i) 0 ≡ get_or line i 0
-      → matched rows (start + i) (drop i line) ≡ matched rows (start + (i + 1)) (drop (i + 1) line)
+  pub place_found : at < length rows → get_or rows at 0 ≡ get_or line i 0 → matched rows at (drop i line) ≡ matched rows (suc at) (drop (suc i) line)
   unfolding matched
-  place_found more l e =
-      let one : i + 1 ≡ suc i = omega arith in
-      let next : start + suc i ≡ suc (start + i) = omega arith in
-      rw (one, next, drop-cons line i 0 more, lt-ltb (start + i) (length rows) l, eq-eqb (get_or rows (start + i) 0) (get_or line i 0) e) refl
+  place_found l e = rw (drop-cons line i 0 more, lt-ltb at (length rows) l, eq-eqb (get_or rows at 0) (get_or line i 0) e) refl
 
-  pub places-end : length line ≤ i → matched rows (start + i) (drop i line) ≡ Ok (start + i)
-  unfolding matched
-  places-end l = rw (drop_of_length-le line {i = i} l) refl
+pub places-end : (rows line : List ℕ) (at i : ℕ) → length line ≤ i → matched rows at (drop i line) ≡ Ok at
+unfolding matched
+places-end rows line at i l = rw (drop_of_length-le line {i = i} l) refl
 
 -- ---- the whole list
 

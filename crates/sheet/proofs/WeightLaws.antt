@@ -1,13 +1,14 @@
 -- The union of the weights has the order of all. Weights in range have at most 12 columns
 -- and, if they are no more than 64, at most 262,080 visits.
 use Prim.Native.Nat.{ℕ, ◌*◌, ◌^◌, ◌≤◌, ◌<◌, max}
-use mathlib.Core.Path.{◌≡◌}
-use mathlib.Core.Bool.{false}
+use mathlib.Core.Path.{◌≡◌, sym, ◌∙◌}
+use mathlib.Core.Bool.{Bool, false, ◌||◌}
 use mathlib.Core.List.{List, [], ◌∷◌}
 use native.Mathlib.Omega.{arith}
 use lib.ListN.{length}
 use Rattle.std.specs.Int.Bits.{bit_or}
 use Rattle.std.specs.List.{fold}
+use Rattle.std.proofs.Math.Bool.{or_assoc, or-false}
 use Rattle.lists.proofs.TestLaws.{or_false}
 use Rattle.bits.specs.Order.{order}
 use Rattle.bits.proofs.OrderLaws.{order_le, order_or}
@@ -25,6 +26,11 @@ order-union u [] = omega arith
 order-union u (w ∷ ws) = omega (arith, order-union (bit_or u w) ws, order_or u w)
 
 -- ---- in range
+
+-- whether one was bad so far, or one of the rest is
+pub any-fold : (found : Bool) (ws : List ℕ) → fold (λ (bad : Bool) (w : ℕ). bad || outside 1 heaviest_on_sheet w) found ws ≡ found || any_bad ws
+any-fold found [] = sym (or-false found)
+any-fold found (w ∷ ws) = any-fold (found || outside 1 heaviest_on_sheet w) ws ∙ or_assoc found (outside 1 heaviest_on_sheet w) (any_bad ws)
 
 pub order_small : (ws : List ℕ) → any_bad ws ≡ false → order_all ws ≤ columns_on_sheet
 unfolding order_all

@@ -5,7 +5,7 @@
 // never by rows that are not visited. Nothing is allocated, and a list may have any length and any numbers.
 #![tactic(auto)]
 
-ghost use Rattle.std.specs.Prelude.{◌≡◌, ◌≤◌, length, IfOk};
+ghost use Rattle.std.specs.Prelude.{◌≡◌, ◌+◌, ◌≤◌, length, IfOk};
 ghost use Rattle.spread.specs.Round.{order_all, round_of};
 ghost use Rattle.sheet.specs.Sheet.{rows_most, columns_on_sheet, any_bad, sheet_call};
 ghost use Rattle.sheet.specs.Lines.{Laid};
@@ -27,11 +27,13 @@ pub const HEAVIEST: u32 = 4095;
 
 const COLUMNS: usize = 12;
 
-// Whether any weight is 0 or above the heaviest.
+// Whether any weight is 0 or above the heaviest. All are asked: several at once take less time than a stop at the first.
 fn any_bad(weights: &[u32]) -> bool
     ensures { result ≡ any_bad weights.now }
 {
-    weights.iter().any(|weight| outside(1, HEAVIEST, *weight))
+    weights
+        .iter()
+        .fold(false, |bad, weight| bad | outside(1, HEAVIEST, *weight))
 }
 
 // The order of rows with these weights: the number of bits of their union.
@@ -41,22 +43,35 @@ fn order_all(weights: &[u32]) -> u32
     order_of(weights.iter().fold(0, |union, weight| union | weight))
 }
 
-// A line held against the list from a place on: the place behind it, or the first wrong place.
+// A line held against the list from a place on, where the list has room for it: the place behind it, or the first wrong place.
+fn hold_whole(line: &[u8], rows: &[u32], start: usize) -> Result<usize, usize>
+    requires { start + length line.now ≤ length rows.now }
+    ensures found { result ≡ matched rows.now start line.now }
+    ensures behind { IfOk result (λ next. next ≡ start + length line.now) }
+{
+    for i in 0..line.len() {
+        if rows[start + i] != u32::from(line[i]) {
+            return Err(start + i);
+        }
+    }
+    Ok(start + line.len())
+}
+
+// A line held against the list from a place on: the place behind it, or the first wrong place. Many lines of a sparse sheet are empty or short, so these
+// are made cheap: an empty one is done at once, and the list's end is asked for once a line.
 fn hold(line: &[u8], rows: &[u32], start: usize) -> Result<usize, usize>
     requires { start ≤ length rows.now }
     ensures found { result ≡ matched rows.now start line.now }
     ensures within { IfOk result (λ next. next ≤ length rows.now) }
 {
-    let both = line.len().min(rows.len() - start);
-    for i in 0..both {
-        if rows[start + i] != u32::from(line[i]) {
-            return Err(start + i);
-        }
+    if line.is_empty() {
+        return Ok(start);
     }
-    if both < line.len() {
+    if rows.len() < start + line.len() {
+        hold_whole(&line[..rows.len() - start], rows, start)?;
         return Err(rows.len());
     }
-    Ok(start + both)
+    hold_whole(line, rows, start)
 }
 
 // The lines of the first k columns, in the room lent for them: given back, they would stand twice on the stack.
@@ -75,10 +90,12 @@ fn round(weights: &[u32], rows: &[u32]) -> Result<usize, usize>
     ensures { result ≡ matched rows.now 0 (round_of weights.now) }
 {
     let k = order_all(weights);
+    // 2^k, from above: with 1 << k each turn of the loop would shift.
+    let end = (HEAVIEST + 1) >> (COLUMNS as u32 - k);
     let mut lines = [Line::new(); COLUMNS];
     lay(weights, k, &mut lines);
     let mut at = 0;
-    for position in 1..1 << k {
+    for position in 1..end {
         at = hold(lines[column_at(k, position) as usize].rows(), rows, at)?;
     }
     Ok(at)
