@@ -1,5 +1,5 @@
 -- Numbers taken one after the other, and what they are where parts were laid.
-use Rattle.std.proofs.Common.{◌≡◌, ℕ, zero, suc, ◌+◌, ◌*◌, ◌^◌, ◌<◌, ◌≤◌, List, [], ◌∷◌, ◌++◌, length, get_or, take, drop, set, replicate, sym, refl, ap, ◌∙◌, append-nil, not-suc-le-zero, pow-suc, add-one, arith, drop_of_length-le, get_or-drop, take_all, drop-cons, drop-drop}
+use Rattle.std.proofs.Common.{◌≡◌, ℕ, zero, suc, ◌+◌, ◌*◌, ◌^◌, ◌<◌, ◌≤◌, List, [], ◌∷◌, ◌++◌, length, get_or, take, drop, set, sym, refl, ap, ◌∙◌, append-nil, not-suc-le-zero, pow-suc, add-one, arith, drop_of_length-le, take_all, drop-cons, drop-drop}
 use Rattle.std.specs.Prelude.{Result, Ok, Err}
 use Rattle.std.specs.Result.{OkIff, result_unwrap_or}
 use native.Mathlib.Nat.{pow-le-pow_right}
@@ -26,19 +26,6 @@ number-same (suc k) a b h = rw (number-same k a b (λ i l. h i (omega arith)), h
 
 pub number-front : (k : ℕ) (b : List ℕ) → as_number k (take k b) ≡ as_number k b
 number-front k b = number-same k (take k b) b (λ i l. get_or-take k b i 0 l)
-
-zero_at : (n i : ℕ) → get_or {A = ℕ} (replicate n 0) i 0 ≡ 0
-zero_at zero i = refl
-zero_at (suc n) zero = refl
-zero_at (suc n) (suc i) = zero_at n i
-
-pub number-padded : (k n m : ℕ) (b : List ℕ) → as_number k (take k (b ++ drop m (replicate n 0))) ≡ as_number k b
-number-padded k n m b = number-front k (b ++ drop m (replicate n 0)) ∙ number-same k (b ++ drop m (replicate n 0)) b (λ i l. at i b)
-  where
-    at : (i : ℕ) (b : List ℕ) → get_or (b ++ drop m (replicate n 0)) i 0 ≡ get_or b i 0
-    at i [] = get_or-drop m (replicate n 0) i 0 ∙ zero_at n (m + i)
-    at zero (x ∷ b) = refl
-    at (suc i) (x ∷ b) = at i b
 
 -- a number that has room in a narrower type is the same there
 pub low : {E : Type 0} (r : Result ℕ E) {bound n u : ℕ} → OkIff r (n < bound) n → u ≡ result_unwrap_or r 0 → n < bound → u ≡ n

@@ -30,6 +30,18 @@ fn number_of(bytes: &[u8]) -> u64
     number
 }
 
+// The number that so many bytes are, some of which are not there. Byte by byte: a copy would be a call, for which the numbers of an unpark leave their registers.
+fn number_beyond(image: &[u8], width: usize) -> u64
+    requires { width ≤ 8 }
+    ensures { result ≡ as_number width image.now }
+{
+    let mut number = 0;
+    for i in 0..width {
+        number = 256 * number + u64::from(byte_at(image, i));
+    }
+    number
+}
+
 // The number that so many bytes are. (Bytes that are there are read where they stand, which an unpark is faster by.)
 pub fn take_number(image: &[u8], width: usize) -> (u64, &[u8])
     requires { width ≤ 8 }
@@ -38,9 +50,7 @@ pub fn take_number(image: &[u8], width: usize) -> (u64, &[u8])
     if let Some((here, behind)) = image.split_at_checked(width) {
         return (number_of(here), behind);
     }
-    let mut padded = [0; 8];
-    padded[..image.len()].copy_from_slice(image);
-    (number_of(&padded[..width]), &image[image.len()..])
+    (number_beyond(image, width), &image[image.len()..])
 }
 
 // The numbers of parts of these widths, of any number of them; answers the bytes behind them alone.
