@@ -20,12 +20,13 @@ use octets::writer::Writer;
 use plain::matrix::Matrix;
 use visits::choose::Chosen;
 
-// One cell: `1` or `.`.
+// One cell: `1` or `.`. The byte is chosen and not the text: no machine foresees a matrix's bits.
 fn put_cell(w: &mut Writer<'_>, cell: u8)
     requires { w.old.at + length (cell_text cell) ≤ length w.old.out.now }
     ensures { Wrote w.old (cell_text cell) w.new }
 {
-    w.bytes(if cell == 1 { b"  1" } else { b"  ." });
+    w.bytes(b"  ");
+    w.byte(if cell == 1 { b'1' } else { b'.' });
 }
 
 // A row's cells, the highest column first.

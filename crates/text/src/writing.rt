@@ -12,11 +12,11 @@ pub fn put_decimal(w: &mut Writer<'_>, n: u32)
     requires { w.old.at + length (digits n) ≤ length w.old.out.now }
     ensures { Wrote w.old (digits n) w.new }
 {
-    let (higher, last) = (n / 10, n % 10);
-    if n >= 10 {
-        put_decimal(w, higher);
+    if n < 10 {
+        return w.byte(b'0' + n as u8);
     }
-    w.byte(b'0' + last as u8);
+    put_decimal(w, n / 10);
+    w.byte(b'0' + (n % 10) as u8);
 }
 
 // A space and a number.
