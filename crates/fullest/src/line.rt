@@ -41,8 +41,7 @@ impl Line {
         }
     }
 
-    // Becomes the n listed slots but one, in their order, whatever it was: a line is lent and never moved, since a move right after its bytes were written one by one
-    // waits for them.
+    // Becomes the n listed slots but one, in their order, whatever it was. A line is lent, and not moved once slots were pushed: such a move waits for their bytes.
     pub fn without(&mut self, state: &Memory, n: usize, slot: usize)
         requires { n ≤ listed }
         ensures { (length self.new ≤ n) × (self.new ≡ without slot (slots_from state.now 0 n)) }
