@@ -28,24 +28,23 @@ module _ {A : Type 0} (n : ℕ) (bytes : A → List ℕ) (left : Left A) (state 
   unfolding entered
   entered-kept off = rw (ne_eqb (length answer) n off)
 
+  -- a call whose answer a comes back: its number, and its bytes
+  entered-by : {r : ℕ} {s b : List ℕ} (a : Answer A) → length answer ≡ n → leaving a s ≡ left → (r ≡ number a) × (b ≡ shown n bytes a)
+      → entry r s b ≡ entered n bytes left state answer
+  unfolding entered
+  entered-by a on e (p, q) = rw (p, q, ← e, eq-eqb (length answer) n on)
+
   pub entered-told : {T : Type 0} {numbers : T → List ℕ} {r : ℕ} {s a : List ℕ} (view : Result T Refusal → Answer A) (x : Result T Refusal)
       → ((w : Refusal) → view (Err w) ≡ refused (refusal_told w))
       → ((t : T) → x ≡ Ok t → (number (view (Ok t)) ≡ 0) × (shown n bytes (view (Ok t)) ≡ words (numbers t)))
       → length answer ≡ n → leaving (view x) s ≡ left → Comes n numbers x r a → entry r s a ≡ entered n bytes left state answer
-  unfolding entered
-  entered-told view x refuses gives on e come =
-      let (p, q) = comes_back n bytes _ view x refuses gives come in
-      rw (p, q, ← e, eq-eqb (length answer) n on)
+  entered-told view x refuses gives on e come = entered-by (view x) on e (comes_back n bytes _ view x refuses gives come)
 
--- the same where what is shown stands another way: the code's answer y, shown by its numbers, is the rules' answer a, shown
-module _ {A U : Type 0} (n : ℕ) (bytes : A → List ℕ) (left : Left A) (state answer : List ℕ) where
-  pub entered-shown : {numbers : U → List ℕ} {r : ℕ} {s b : List ℕ} (a : Answer A) (y : Result U Refusal) → length answer ≡ n → leaving a s ≡ left → Comes n numbers y r b
-      → (number (answered y) ≡ number a) × (shown n (λ t. words (numbers t)) (answered y) ≡ shown n bytes a) → entry r s b ≡ entered n bytes left state answer
-  unfolding entered
-  entered-shown a y on e come same =
-      let p = come.number_is ∙ same.0 in
-      let q = come.bytes_are ∙ same.1 in
-      rw (p, q, ← e, eq-eqb (length answer) n on)
+  -- the same where what is shown stands another way: the code's answer y, shown by its numbers, is the rules' answer a, shown
+  pub entered-shown : {U : Type 0} {numbers : U → List ℕ} {r : ℕ} {s b : List ℕ} (a : Answer A) (y : Result U Refusal) → length answer ≡ n → leaving a s ≡ left
+      → Comes n numbers y r b → (number (answered y) ≡ number a) × (shown n (λ t. words (numbers t)) (answered y) ≡ shown n bytes a)
+      → entry r s b ≡ entered n bytes left state answer
+  entered-shown a y on e come same = entered-by a on e (come.number_is ∙ same.0, come.bytes_are ∙ same.1)
 
 -- a call without an answer buffer
 pub entered-done : {r : ℕ} {s a : List ℕ} {left : Left (Unit {0})} (state : List ℕ) (view : Result (Unit {0}) Refusal → Answer (Unit {0})) (x : Result (Unit {0}) Refusal)

@@ -18,21 +18,31 @@ multiple-shifted k s p l n h =
     let quotient : p / 2 ^ s < 2 ^ (k - s) = shr_lt (k - s) s (rw whole h) in
     shl_exact (suc (k - s)) s 32 (omega (arith, pow_pos (k - s))) (omega arith)
 
--- ---- the three answers
+-- ---- the three answers, and each in one number
+
+jumped-none : (k u p : ℕ) → 2 ^ k ≤ multiple (k - order u) p → jump k u p ≡ None
+unfolding jump
+jumped-none k u p h = rw (le-ltb (multiple (k - order u) p) (2 ^ k) h) refl
+
+jumped-first : (k u p : ℕ) → multiple (k - order u) p < 2 ^ k → bit (column_at k (multiple (k - order u) p)) u ≡ 1 → jump k u p ≡ Some (multiple (k - order u) p)
+unfolding jump
+jumped-first k u p h e = rw (lt-ltb (multiple (k - order u) p) (2 ^ k) h, eq-eqb _ _ e) refl
+
+jumped-second : (k u p : ℕ) → multiple (k - order u) p < 2 ^ k → (bit (column_at k (multiple (k - order u) p)) u ≡ 1 → ⊥)
+    → jump k u p ≡ Some (multiple (k - order u) p + 2 ^ (k - order u))
+unfolding jump
+jumped-second k u p h e = rw (lt-ltb (multiple (k - order u) p) (2 ^ k) h, ne_eqb _ _ e) refl
 
 pub jump-none : (k u p : ℕ) → 2 ^ k ≤ multiple (k - order u) p → landing (jump k u p) ≡ 0
-unfolding jump
-jump-none k u p h = rw (le-ltb (multiple (k - order u) p) (2 ^ k) h)
+jump-none k u p h = ap landing (jumped-none k u p h)
 
 pub jump-first : (k u p : ℕ) → multiple (k - order u) p < 2 ^ k → bit (column_at k (multiple (k - order u) p)) u ≡ 1
     → landing (jump k u p) ≡ multiple (k - order u) p
-unfolding jump
-jump-first k u p h e = rw (lt-ltb (multiple (k - order u) p) (2 ^ k) h, eq-eqb _ _ e)
+jump-first k u p h e = ap landing (jumped-first k u p h e)
 
 pub jump-second : (k u p : ℕ) → multiple (k - order u) p < 2 ^ k → (bit (column_at k (multiple (k - order u) p)) u ≡ 1 → ⊥)
     → landing (jump k u p) ≡ multiple (k - order u) p + 2 ^ (k - order u)
-unfolding jump
-jump-second k u p h e = rw (lt-ltb (multiple (k - order u) p) (2 ^ k) h, ne_eqb _ _ e)
+jump-second k u p h e = ap landing (jumped-second k u p h e)
 
 -- ---- the same as the code has them
 
@@ -56,8 +66,7 @@ module _ (k u p b : ℕ) (same : b ≡ order u) (fit : order u ≤ k) (low : k �
   step = rw same (shifted 32 (k - order u) (omega arith))
 
   pub jump-none-worked : 1 * 2 ^ k % 2 ^ 32 ≤ first → ◌≡◌ {A = Option ℕ} None (jump k u p)
-  unfolding jump
-  jump-none-worked h = let past : 2 ^ k ≤ candidate = omega (arith, whole, first_is) in rw (le-ltb candidate (2 ^ k) past) refl
+  jump-none-worked h = sym (jumped-none k u p (omega (arith, whole, first_is)))
 
   -- the first candidate stands before 2 to the order, and c is its column
   module _ (h : first < 1 * 2 ^ k % 2 ^ 32) (c : ℕ) (at : c ≡ column_at k first) where
@@ -70,9 +79,7 @@ module _ (k u p b : ℕ) (same : b ≡ order u) (fit : order u ≤ k) (low : k �
     asked = ap (λ (x : ℕ). u / 2 ^ x % 2) (at ∙ ap (column_at k) first_is)
 
     pub jump-first-worked : u / 2 ^ c % 2 ≡ 1 → ◌≡◌ {A = Option ℕ} (Some first) (jump k u p)
-    unfolding jump
-    jump-first-worked e = rw (lt-ltb candidate (2 ^ k) before, eq-eqb _ _ (sym asked ∙ e)) (ap (λ (x : ℕ). Some x) first_is)
+    jump-first-worked e = ap (λ (x : ℕ). Some x) first_is ∙ sym (jumped-first k u p before (sym asked ∙ e))
 
     pub jump-second-worked : (u / 2 ^ c % 2 ≡ 1 → ⊥) → ◌≡◌ {A = Option ℕ} (Some (first + 1 * 2 ^ (k - b) % 2 ^ 32)) (jump k u p)
-    unfolding jump
-    jump-second-worked e = rw (lt-ltb candidate (2 ^ k) before, ne_eqb _ _ (λ z. e (asked ∙ z)), step) (ap (λ (x : ℕ). Some (x + 2 ^ (k - order u))) first_is)
+    jump-second-worked e = rw step (ap (λ (x : ℕ). Some (x + 2 ^ (k - order u))) first_is ∙ sym (jumped-second k u p before (λ z. e (asked ∙ z))))
