@@ -16,7 +16,8 @@ use Rattle.memory.proofs.OnLaws.{start_on-fresh}
 use Rattle.text.specs.Lines.{lines_of, line_at, line_after}
 use Rattle.text.specs.Commands.{command_of}
 use Rattle.octets.specs.Writing.{written}
-use Rattle.text.specs.Answers.{line_answer, output, most, too_long, lift, widest, half_widest, Prints, room_for, Stands}
+use Rattle.octets.specs.declared.writer.Writer.{Writer}
+use Rattle.text.specs.Answers.{line_answer, output, most, too_long, lift, widest, half_widest, Prints, PrintsBy, room_for, Stands}
 use Rattle.text.proofs.LineLaws.{lines_after, after-within}
 use Rattle.octets.proofs.WritingLaws.{take-written, length-written}
 
@@ -45,6 +46,10 @@ few_bytes b s at {place} {place'} {at'} {out} {out'} more few p e = go (line_at 
     go (c ∷ cs) some =
         let end : length (line_at s at) ≡ length (c ∷ cs) = ap length some in
         (omega (arith, p.place, p.short), λ h. omega (arith, p.place, p.short))
+
+-- what a writer printed stands in its lent bytes
+pub prints-by : {w v : Writer} {line : List ℕ} → PrintsBy w line v → Prints w.out.now w.at line v.at v.out.now
+prints-by P = record { place = P.wrote.written.place; text = P.wrote.written.buffer; short = P.short }
 
 -- the lines of s up to `at` are answered, the memory was b and is `left`, and their output is the first `place` bytes of `out`
 pub record Going (b s : List ℕ) (at place : ℕ) (left out : List ℕ) : Type 0 where

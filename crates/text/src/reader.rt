@@ -3,7 +3,7 @@
 // Document 01: "The text is walked by a reader that holds the command text and its place." Each method is thin; the work is done by the functions of the
 // other files, on a slice and a place. `line_at` has plain parameters: whoever calls it sees no reader.
 ghost use Rattle.std.specs.Prelude.{◌≡◌, ◌≤◌, length};
-ghost use Rattle.text.specs.Reading.{Reads};
+ghost use Rattle.text.specs.Reading.{Reads, Moves};
 
 use super::command::{Line, line_from};
 
@@ -35,6 +35,19 @@ impl<'a> Reader<'a> {
     {
         line_from(self.text, self.at)
     }
+
+    // The line at the reader's place, which goes on behind it; none where the text is at its end.
+    pub fn next_line(&mut self) -> Option<Line>
+        requires { self.old.at ≤ length self.old.text.now }
+        ensures { Moves self.old result self.new }
+    {
+        if self.at >= self.text.len() {
+            return None;
+        }
+        let line = self.line();
+        self.at = line.next;
+        Some(line)
+    }
 }
 
 // The line at a place of the text, by a reader.
@@ -43,4 +56,29 @@ pub fn line_at(text: &[u8], at: usize) -> Line
     ensures { Reads text.now at result }
 {
     Reader::new(text).moved(at).line()
+}
+
+#[cfg(test)]
+mod tests {
+    use super::super::command::Command;
+    use super::Reader;
+
+    // Each line of a text is given once, and the reader stands behind it: an empty one, one of no form, a last one without a line feed. Then none, however often
+    // one is asked for.
+    #[test]
+    fn each_line_once(rt: HostRuntime) {
+        let mut reader = Reader::new(b"O 7\n\nC 63 5\nN?\nN");
+        let first = reader.next_line().and_then(|line| line.command);
+        assert!(rt; matches!(first, Some(Command::Open(7))) && reader.at == 4);
+        let empty = reader.next_line();
+        assert!(rt; empty.is_some_and(|line| line.command.is_none()) && reader.at == 5);
+        let third = reader.next_line().and_then(|line| line.command);
+        assert!(rt; matches!(third, Some(Command::Close(63, 5))) && reader.at == 12);
+        let other = reader.next_line();
+        assert!(rt; other.is_some_and(|line| line.command.is_none()) && reader.at == 15);
+        let last = reader.next_line().and_then(|line| line.command);
+        assert!(rt; matches!(last, Some(Command::Next)) && reader.at == 16);
+        assert!(rt; reader.next_line().is_none() && reader.at == 16);
+        assert!(rt; reader.next_line().is_none() && reader.at == 16);
+    }
 }
