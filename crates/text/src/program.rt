@@ -28,7 +28,8 @@ fn answer_all(state: &mut [u8], text: &[u8], out: &mut [u8]) -> usize
     ensures { Stands (output state.old (lines_of text.now)) result out.new }
 {
     let mut places = Places { at: 0, place: 0 };
-    // A while: each turn goes on behind a whole line, and a `for` has no place that a line moves.
+    // By `answer_line`, as matrix answers its lines (docs/DECISIONS 76), and so not over a reader's `next_line`. A while: each turn goes on behind a whole line, and a
+    // `for` has no place that a line moves.
     while places.at < text.len() {
         places = answer_line(state, text, places.at, out, places.place);
     }
